@@ -1,0 +1,9 @@
+pub mod Modular
+pub mod Words
+pub mod Duality
+pub mod Indices
+pub mod Product
+pub mod Alphabets
+pub mod Sums
+pub mod Regularise
+pub mod Letters
