@@ -1,0 +1,4 @@
+pub mod Rows
+pub mod Reduced
+pub mod Forward
+pub mod Tables
