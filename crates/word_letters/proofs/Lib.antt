@@ -1,0 +1,9 @@
+pub mod Packings
+pub mod Ends
+pub mod Indices
+pub mod IndexLemmas
+pub mod Reading
+pub mod Meaning
+pub mod Following
+pub mod Totals
+pub mod Kept
