@@ -1,0 +1,5 @@
+pub mod EntryLemmas
+mod Merging
+mod Multiplying
+mod Scaling
+pub mod SameRows
