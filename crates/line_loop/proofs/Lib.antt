@@ -1,0 +1,5 @@
+pub mod Cutting
+pub mod Talking
+pub mod Under
+pub mod Whole
+pub mod Ending
