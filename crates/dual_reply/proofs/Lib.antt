@@ -1,0 +1,13 @@
+pub mod DualityLemmas
+pub mod SumLemmas
+pub mod AcceptedWords
+pub mod CompleteReading
+pub mod SoundReading
+pub mod ListingLemmas
+pub mod ListingLaws
+pub mod PlaceLemmas
+pub mod TextLemmas
+pub mod FoldLemmas
+pub mod TextLaws
+pub mod AcceptedLines
+pub mod CanonicalLaw

@@ -1,0 +1,53 @@
+-- The list of a sum's terms in the order in which they are printed.
+use Rattle.std.specs.Prelude.{◌≡◌, ℕ, ◌+◌, ◌*◌, ◌%◌, ◌<◌, ◌==◌, if◌then◌else◌, List, [], ◌∷◌, length, map}
+use Rattle.std.specs.List.{AllByRecursion}
+use Rattle.std.specs.List.Sorted.{IsStrictlySortedBy}
+use Rattle.std.specs.declared.cmp.Ordering.{Ordering}
+use Rattle.std.specs.declared.cmp.Ordering.TheVariants.{Less, Equal, Greater}
+use Rattle.std.specs.Ordering.{nat_cmp, on, then_cmp}
+use Rattle.zeta_model.specs.declared.Letter.{Letter}
+use Rattle.zeta_model.specs.Words.{word_cmp}
+use Rattle.zeta_model.specs.Duality.{representative_of}
+use Rattle.dual_reply.specs.Sums.{one_at, number_of, folded_sum}
+use Rattle.dual_reply.specs.declared.reader.Signed.{Signed}
+use Rattle.dual_reply.specs.declared.listing.Entry.{Entry}
+
+-- by weight, and then by the order of words
+abbrev pub listing_cmp : List Letter → List Letter → Ordering
+listing_cmp = then_cmp (on length nat_cmp) word_cmp
+
+-- the coefficient of a word in a list of entries
+abbrev pub entry_at : List Entry → List Letter → ℕ
+entry_at [] w = 0
+entry_at (e ∷ es) w = e.residue * one_at e.word w + entry_at es w
+
+-- the words increase, the residues are from 1 to m - 1, and they are the coefficients of the folded sum
+pub record IsListing (m : ℕ) (terms : List Signed) (es : List Entry) : Type 0 where
+  pub increasing : IsStrictlySortedBy listing_cmp (map (λ e. e.word) es)
+  pub residues : AllByRecursion (λ e. (0 < e.residue) × (e.residue < m)) es
+  pub coefficients : (w : List Letter) → entry_at es w % m ≡ folded_sum m terms w % m
+
+-- an entry joined to one of the same word: none where they cancel
+abbrev pub joined : ℕ → ℕ → Entry → List Entry → List Entry
+joined m residue f fs = if residue == 0 then fs else record { residue = residue; word = f.word } ∷ fs
+
+abbrev pub placed : Ordering → ℕ → Entry → Entry → List Entry → List Entry → List Entry
+placed Less m e f fs longer = e ∷ f ∷ fs
+placed Equal m e f fs longer = joined m ((f.residue + e.residue) % m) f fs
+placed Greater m e f fs longer = f ∷ longer
+
+-- the list with one more entry in its place
+abbrev pub with_entry : ℕ → Entry → List Entry → List Entry
+with_entry m e [] = e ∷ []
+with_entry m e (f ∷ fs) = placed (listing_cmp e.word f.word) m e f fs (with_entry m e fs)
+
+abbrev pub entry_of : ℕ → Signed → Entry
+entry_of m t = record { residue = number_of m t.negative; word = representative_of t.word }
+
+abbrev pub with_terms : ℕ → List Entry → List Signed → List Entry
+with_terms m es [] = es
+with_terms m es (t ∷ ts) = with_terms m (with_entry m (entry_of m t) es) ts
+
+-- the entries of a folded sum, which are its one listing
+unfoldable pub listing_of : ℕ → List Signed → List Entry
+listing_of m terms = with_terms m [] terms

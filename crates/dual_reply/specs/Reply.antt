@@ -1,0 +1,33 @@
+-- The reply to a line.
+use Rattle.std.specs.Prelude.{ℕ, Bool, true, false, Option, Some, None, List, [], ◌∷◌, ◌++◌, codes, map}
+use Rattle.std.specs.List.{join_with_byte}
+use Rattle.std.specs.Fmt.{decimal}
+use Rattle.zeta_model.specs.Indices.{word_text}
+use Rattle.dual_reply.specs.Reading.{terms_of}
+use Rattle.dual_reply.specs.Listing.{listing_of}
+use Rattle.dual_reply.specs.declared.reader.Signed.{Signed}
+use Rattle.dual_reply.specs.declared.listing.Entry.{Entry}
+
+-- `100*z(3,1)`
+abbrev pub entry_text : Entry → List ℕ
+entry_text e = decimal e.residue ++ (codes "*" ++ word_text e.word)
+
+-- the text, behind a byte where it is not the first
+abbrev pub behind_byte : ℕ → Bool → List ℕ → List ℕ
+behind_byte c true text = text
+behind_byte c false text = c ∷ text
+
+-- the entries joined by `+`, and `0` where there is none
+abbrev pub text_of : List Entry → List ℕ
+text_of [] = codes "0"
+text_of (e ∷ es) = join_with_byte 43 (map entry_text (e ∷ es))
+
+abbrev pub refusal : List ℕ
+refusal = codes "refused"
+
+abbrev pub reply_to : ℕ → Option (List Signed) → List ℕ
+reply_to m None = refusal
+reply_to m (Some terms) = text_of (listing_of m terms)
+
+abbrev pub reply_of : ℕ → List ℕ → List ℕ
+reply_of m line = reply_to m (terms_of line)

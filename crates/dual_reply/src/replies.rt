@@ -1,0 +1,58 @@
+//! The reply to a line, and what the replies tell.
+ghost use Rattle.std.specs.Prelude.{◌≡◌, ℕ, ◌^◌, ◌<◌, ◌≤◌, ◌++◌, OnOk, OnErr, IfOk};
+ghost use Rattle.dual_reply.specs.Canonical.{IsCanonical, IsExact, IsFolded, IsTold};
+ghost use Rattle.dual_reply.specs.Reply.{reply_of};
+
+use crate::listing::listing_of;
+use crate::reader::terms_of;
+use crate::text::push_text;
+use std::alloc::{AllocError, Global};
+
+/// The text of the reply to a line.
+fn reply_text(alloc: Global, modulus: u64, line: &[u8]) -> Result<Vec<u8>, AllocError>
+    requires from { 3 ≤ modulus }
+    requires below { modulus < 2 ^ 63 }
+    ensures { IfOk result (λ text. text.items ≡ reply_of modulus line.now) }
+{
+    match terms_of(alloc, line)? {
+        Some(terms) => {
+            let entries = listing_of(alloc, modulus, &terms)?;
+            let mut text = Vec::new(alloc);
+            push_text(&mut text, &entries)?;
+            Ok(text)
+        }
+        None => Vec::from_slice(alloc, b"refused"),
+    }
+}
+
+/// Adds the reply to a line, by duality modulo `modulus`.
+///
+/// An accepted line has at most 4,096 bytes and is an optional sign, a zeta, then any number of a sign and a zeta,
+/// each zeta with a first index of at least 2 and a weight of at most 24. Each word is replaced by the lesser of it
+/// and its dual, coefficients are summed, and the terms are added by weight and then by increasing word, `0` where
+/// there is none. To every other line `refused` is added, and to no accepted one. `replies_are_canonical` says what
+/// the replies tell (duality: Ihara, Kaneko, Zagier 2006). After want of memory `out` is as before.
+pub fn reply(alloc: Global, modulus: u64, line: &[u8], out: &mut Vec<u8>) -> Result<(), AllocError>
+    requires from { 3 ≤ modulus }
+    requires below { modulus < 2 ^ 63 }
+    ensures ok { OnOk result (out.new.items ≡ out.old.items ++ reply_of modulus line.now) }
+    ensures err { OnErr result (out.new.items ≡ out.old.items) }
+{
+    let text = reply_text(alloc, modulus, line)?;
+    out.extend_from_slice(&text)?;
+    Ok(())
+}
+
+/// What the replies tell, for every modulus of `reply`.
+///
+/// `canonical`: two accepted lines get the same reply exactly where the difference of their sums of words is a
+/// combination, modulo `m`, of the sums of a word less its dual, over admissible words of weight at most 24.
+/// `exact`: a line is refused exactly where it is no accepted line. `folded`: an accepted line gets the text of the
+/// listing of its sum with each word replaced by the lesser of it and its dual. `told`: the text of such a listing
+/// determines it.
+pub fn replies_are_canonical()
+    ensures canonical { (m : ℕ) → 3 ≤ m → m < 2 ^ 63 → IsCanonical m }
+    ensures exact { (m : ℕ) → 3 ≤ m → m < 2 ^ 63 → IsExact m }
+    ensures folded { (m : ℕ) → 3 ≤ m → m < 2 ^ 63 → IsFolded m }
+    ensures told { (m : ℕ) → 3 ≤ m → m < 2 ^ 63 → IsTold m }
+{}

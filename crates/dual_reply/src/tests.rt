@@ -1,0 +1,72 @@
+use super::*;
+use std::alloc::{AllocError, Global};
+
+/// Whether a line gets a reply.
+fn gets(alloc: Global, modulus: u64, line: &[u8], wanted: &[u8]) -> Result<bool, AllocError> {
+    let mut out = Vec::new(alloc);
+    if 3 <= modulus && modulus < 9223372036854775808 {
+        reply(alloc, modulus, line, &mut out)?;
+    }
+    Ok(out.as_slice() == wanted)
+}
+
+#[test]
+fn sums_are_folded_by_duality(rt: HostRuntime) -> Result<(), AllocError> {
+    // modulus, line, reply
+    let table: [(u64, &str, &str); 12] = [
+        (101, "z(2,1)-z(3)", "0"),
+        (101, "z(2,1)+z(3)", "2*z(3)"),
+        (101, "z(3,1)+z(2)", "1*z(2)+1*z(3,1)"),
+        (101, "-z(4)", "100*z(4)"),
+        (101, " + z ( 2 , 1 )\t- z(2,1) \r", "0"),
+        (101, "z(24)", "1*z(24)"),
+        (101, "z(10,1,13)-z(3,1,1)", "100*z(4,1)+1*z(10,1,13)"),
+        (
+            101,
+            "z(4,1)+z(2,1,2)+z(3,1,1)+z(2)-z(5)",
+            "1*z(2)+100*z(5)+2*z(4,1)+1*z(2,3)",
+        ),
+        (101, "z(23,1)", "1*z(23,1)"),
+        (3, "z(5)+z(5)+z(5)+z(2)", "1*z(2)"),
+        (4, "z(2,1)+z(3)+z(3)+z(2,1)", "0"),
+        (
+            9223372036854775807,
+            "-z(2,2)+z(3,2)-z(2,3)",
+            "9223372036854775806*z(2,2)+1*z(3,2)+9223372036854775806*z(2,3)",
+        ),
+    ];
+    for (modulus, line, wanted) in table {
+        assert!(rt;
+            gets(rt.alloc(), modulus, line.as_bytes(), wanted.as_bytes())?,
+            "{line} is to get {wanted}"
+        );
+    }
+    Ok(())
+}
+
+#[test]
+fn other_lines_are_refused(rt: HostRuntime) -> Result<(), AllocError> {
+    let lines: [&str; 16] = [
+        "", "z(3", "2*z(3)", "z(25)", "z(12,13)", "z(1,2)", "z(2 4)", "z(02)", "z(1000)",
+        "z(2)z(3)", "z(2)+", "+-z(2)", "z(2)\n", "z(2,)", "z()", "z(2,0)",
+    ];
+    for line in lines {
+        assert!(rt;
+            gets(rt.alloc(), 101, line.as_bytes(), b"refused")?,
+            "{line}"
+        );
+    }
+    Ok(())
+}
+
+#[test]
+fn a_line_has_at_most_4096_bytes(rt: HostRuntime) -> Result<(), AllocError> {
+    let mut line = Vec::from_slice(rt.alloc(), b"z(2)")?;
+    for _ in 0..4092 {
+        line.push(b' ')?;
+    }
+    assert!(rt; gets(rt.alloc(), 101, &line, b"1*z(2)")?);
+    line.push(b' ')?;
+    assert!(rt; gets(rt.alloc(), 101, &line, b"refused")?);
+    Ok(())
+}

@@ -1,0 +1,78 @@
+//! The text of a sum.
+ghost use Rattle.std.specs.Prelude.{◌≡◌, ℕ, ◌+◌, ◌++◌, List, map, OnOk};
+ghost use Rattle.std.specs.List.{join_with_byte};
+ghost use Rattle.std.specs.Fmt.{decimal};
+ghost use Rattle.zeta_model.specs.Indices.{index_of, word_text};
+ghost use Rattle.dual_reply.specs.Reply.{behind_byte, entry_text, text_of};
+
+use crate::listing::Entry;
+use itoa::Buffer;
+use std::alloc::AllocError;
+use word_letters::{Letter, Word};
+
+/// Adds a number in decimal.
+fn push_number(out: &mut Vec<u8>, number: u64) -> Result<(), AllocError>
+    ensures { OnOk result (out.new.items ≡ out.old.items ++ decimal number) }
+{
+    let mut buffer = Buffer::new();
+    out.extend_from_slice(buffer.format(number).as_bytes())
+}
+
+/// Adds a number of an index, behind a comma where it is not the first.
+fn push_part(out: &mut Vec<u8>, first: bool, number: u32) -> Result<(), AllocError>
+    ensures { OnOk result (out.new.items ≡ out.old.items ++ behind_byte 44 first (decimal number)) }
+{
+    if !first {
+        out.push(b',')?;
+    }
+    push_number(out, u64::from(number))
+}
+
+/// Adds the numbers of the index of a word, with commas between them.
+fn push_index(out: &mut Vec<u8>, word: &Word) -> Result<(), AllocError>
+    ensures { OnOk result (out.new.items ≡ out.old.items ++ join_with_byte 44 (map decimal (index_of word.now))) }
+{
+    let mut first = true;
+    let mut run = 1;
+    for i in 0..word.weight() {
+        match word.letter(i) {
+            Letter::X => run += 1,
+            Letter::Y => {
+                push_part(out, first, run)?;
+                first = false;
+                run = 1;
+            }
+        }
+    }
+    Ok(())
+}
+
+/// Adds an entry, as `100*z(3,1)`, behind a `+` where it is not the first.
+fn push_entry(out: &mut Vec<u8>, first: bool, entry: &Entry) -> Result<(), AllocError>
+    ensures { OnOk result (out.new.items ≡ out.old.items ++ behind_byte 43 first (entry_text entry.now)) }
+{
+    if !first {
+        out.push(b'+')?;
+    }
+    push_number(out, entry.residue)?;
+    out.extend_from_slice(b"*z(")?;
+    push_index(out, &entry.word)?;
+    out.push(b')')?;
+    Ok(())
+}
+
+/// Adds the text of a sum: its entries joined by `+`, and `0` where there is none.
+pub fn push_text(out: &mut Vec<u8>, entries: &[Entry]) -> Result<(), AllocError>
+    ensures { OnOk result (out.new.items ≡ out.old.items ++ text_of entries.now) }
+{
+    if entries.is_empty() {
+        out.push(b'0')?;
+        return Ok(());
+    }
+    let mut first = true;
+    for entry in entries {
+        push_entry(out, first, entry)?;
+        first = false;
+    }
+    Ok(())
+}
