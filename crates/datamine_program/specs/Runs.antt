@@ -1,0 +1,70 @@
+-- What a whole run writes and how it ends, with ample memory and no fault, and what any run has of it.
+use Rattle.std.specs.Prelude.{◌≡◌, ◌⊎◌, ℕ, List, [], ◌∷◌, ◌++◌, length, Option, Result, Ok, Err, nat_lt, codes, decimal, if◌then◌else◌}
+use Rattle.outside_io.specs.Told.{before_told, after_told, AppendsFront}
+use Rattle.line_loop.specs.Lines.{whole_output, input_limit, cut, answers}
+use Rattle.line_loop.specs.Talk.{Tells}
+use Rattle.dual_reply.specs.Reply.{reply_of}
+use Rattle.datamine_program.specs.declared.words.Command.{Command}
+use Rattle.datamine_program.specs.declared.words.Command.TheVariants.{Dual}
+use Rattle.datamine_program.specs.declared.words.ParamFault.{ParamFault}
+use Rattle.datamine_program.specs.declared.words.ParamFault.TheVariants.{Modulus}
+use Rattle.datamine_program.specs.declared.words.WordsFault.{WordsFault}
+use Rattle.datamine_program.specs.declared.words.WordsFault.TheVariants.{Usage, Param}
+use Rattle.datamine_program.specs.declared.status.Status.{Status}
+use Rattle.datamine_program.specs.declared.status.Status.TheVariants as status
+use Rattle.datamine_program.specs.Statuses.{BreaksOff}
+
+abbrev pub Asked : Type 0
+Asked = Result Command WordsFault
+
+abbrev pub usage_line : List ℕ
+usage_line = codes "usage: dual M; list W D; reduce W D M ORDER; build FILE W D M ORDER; resume FILE W D M ORDER; check FILE; rewrite FILE; show FILE; sample W D M SEED COUNT" ++ 10 ∷ []
+
+abbrev pub fault_text : ParamFault → List ℕ
+fault_text (Modulus m) = codes "modulus " ++ decimal m
+
+abbrev pub param_line : ParamFault → List ℕ
+param_line fault = codes "bad parameter: " ++ (fault_text fault ++ 10 ∷ [])
+
+-- all that is written to an input
+abbrev pub output_of : Asked → List ℕ → List ℕ
+output_of (Err Usage) input = usage_line
+output_of (Err (Param fault)) input = param_line fault
+output_of (Ok (Dual m)) input = whole_output input_limit (reply_of m) input
+
+-- how it ends
+abbrev pub status_of : Asked → List ℕ → Status
+status_of (Err Usage) input = status.Usage
+status_of (Err (Param fault)) input = status.Params
+status_of (Ok (Dual m)) input = if nat_lt input_limit (length input) then status.TooMuchInput else status.Done
+
+-- the replies to the lines that are whole in the bytes that were read
+abbrev pub replies_of : Asked → List ℕ → List ℕ
+replies_of (Err fault) seen = []
+replies_of (Ok (Dual m)) seen = answers (reply_of m) (cut seen).0
+
+-- the commands that read lines from the source, and those that are lent a file
+abbrev pub ReadsLines : Asked → Type 0
+ReadsLines (Err fault) = ⊥
+ReadsLines (Ok (Dual m)) = Unit {0}
+
+abbrev pub NamesFile : Asked → Type 0
+NamesFile (Err fault) = ⊥
+NamesFile (Ok (Dual m)) = ⊥
+
+-- a parameter test fails
+abbrev pub FailsTest : Asked → Type 0
+FailsTest asked = (fault : ParamFault) × (asked ≡ Err (Param fault))
+
+-- what any run has of the whole one: the input is what the source tells, where it tells
+pub record Outcome (asked : Asked) (left taken taken_new : Option (List ℕ)) (result : Status) : Type 0 where
+  pub input : List ℕ
+  pub told : Tells left input
+  pub front : AppendsFront taken taken_new (output_of asked input)
+  pub whole : BreaksOff result ⊎ ((taken_new ≡ after_told taken (output_of asked input)) × (result ≡ status_of asked input))
+
+-- the replies that were written are those to the lines that are whole in the bytes that were read
+pub record AnswersSeen (asked : Asked) (left left_new taken taken_new : Option (List ℕ)) : Type 0 where
+  pub seen : List ℕ
+  pub read : left ≡ before_told seen left_new
+  pub wrote : taken_new ≡ after_told taken (replies_of asked seen)

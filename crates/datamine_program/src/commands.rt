@@ -1,0 +1,51 @@
+//! The call that the program makes: the command that the words ask for is done.
+ghost use Rattle.std.specs.Prelude.{◌≡◌, [], ℕ, map, string_bytes, Ok, Err};
+ghost use Rattle.outside_io.specs.Causes.{Rose};
+ghost use Rattle.line_loop.specs.Talk.{Tells};
+ghost use Rattle.datamine_program.specs.Statuses.{ComesFor};
+ghost use Rattle.datamine_program.specs.Words.{asked};
+ghost use Rattle.datamine_program.specs.Replies.{TellsSums};
+ghost use Rattle.datamine_program.specs.Runs.{Outcome, AnswersSeen, ReadsLines, NamesFile, FailsTest};
+ghost use Rattle.datamine_program.specs.declared.words.Command.TheVariants.{Dual};
+ghost use Rattle.datamine_program.specs.declared.words.WordsFault.TheVariants.{Usage};
+
+use crate::dual::run_dual;
+use crate::refusals::{refuse_param, refuse_words};
+use crate::{Command, Status, WordsFault, read_words};
+use outside_io::{Disk, Sink, Source};
+use std::alloc::Global;
+
+/// Does what the words behind the program's name ask for.
+///
+/// `dual M` reads the source to its end, and writes one reply and the byte 10 for each line. `Usage` and `Params`
+/// come exactly where the words fit no command or a parameter test fails, whatever memory there is; only a write
+/// that fails may come in their place. `DiskFault`, `ReadFault` and `WriteFault` come only where that object's
+/// count of faults rose in this call. What is written is a first part of the whole run's output: all of it unless
+/// memory was wanting or a call failed, and with `ReadFault` the replies to the lines that are whole in the bytes
+/// that were read. `Done` says that the source was read to its end, where the command reads lines.
+pub fn run<D: Disk, S: Source, K: Sink>(
+    alloc: Global,
+    words: &[String],
+    disk: &mut D,
+    source: &mut S,
+    sink: &mut K,
+) -> Status
+    ensures usage { ComesFor (asked (map string_bytes words.now) ≡ Err Usage) Status.Usage result }
+    ensures params { ComesFor (FailsTest (asked (map string_bytes words.now))) Status.Params result }
+    ensures disk_fault_only { result ≡ Status.DiskFault → NamesFile (asked (map string_bytes words.now)) × Rose (D.faults disk.old) (D.faults disk.new) }
+    ensures read_fault_only { result ≡ Status.ReadFault → ReadsLines (asked (map string_bytes words.now)) × Rose (S.faults source.old) (S.faults source.new) }
+    ensures write_fault_only { result ≡ Status.WriteFault → Rose (K.faults sink.old) (K.faults sink.new) }
+    ensures outcome { Outcome (asked (map string_bytes words.now)) (S.left source.old) (K.taken sink.old) (K.taken sink.new) result }
+    ensures done { result ≡ Status.Done → ReadsLines (asked (map string_bytes words.now)) → Tells (S.left source.new) [] }
+    ensures answered { result ≡ Status.ReadFault → AnswersSeen (asked (map string_bytes words.now)) (S.left source.old) (S.left source.new) (K.taken sink.old) (K.taken sink.new) }
+    ensures disk { disk.new ≡ disk.old }
+
+    // Two accepted lines get the same text exactly where their sums differ by duality, and no accepted line is refused.
+    ensures replies { (m : ℕ) → asked (map string_bytes words.now) ≡ Ok (Dual m) → TellsSums m }
+{
+    match read_words(words) {
+        Err(WordsFault::Usage) => refuse_words(sink),
+        Err(WordsFault::Param(fault)) => refuse_param(sink, fault),
+        Ok(Command::Dual { modulus }) => run_dual(alloc, modulus, source, sink),
+    }
+}
