@@ -3,9 +3,11 @@ use Rattle.std.proofs.Common.{◌≡◌, ℕ, ◌+◌, ◌-◌, ◌*◌, ◌%◌
 use Rattle.zeta_model.specs.Duality.{dual_of, representative_of}
 use Rattle.zeta_model.specs.Modular.{Same}
 use Rattle.zeta_model.proofs.ModularLemmas.{same-add, same-add_right, same-mul_left, same-multiple}
-use Rattle.dual_reply.specs.Sums.{one_at, number_of, word_sum, folded_sum, difference, dual_sum}
+use Rattle.zeta_model.specs.Sums.{difference}
+use Rattle.dual_reply.specs.Sums.{one_at, number_of, word_sum, folded_sum, dual_sum}
 use Rattle.dual_reply.specs.declared.reader.Signed.{Signed}
-use Rattle.dual_reply.proofs.DualityLemmas.{representative_cases, representative_of-dual_of}
+use Rattle.zeta_model.proofs.DualityLaws.{representative_of-dual_of}
+use Rattle.dual_reply.proofs.DualityLemmas.{representative_cases}
 use Rattle.dual_reply.proofs.SumLemmas.{W, one_at-same, one_at-other, word_cases, folded_at, by_kind, folded_at-none, folded_at-self, folded_at-pair, one_at-representative_of}
 
 times_one_more : (k x : ℕ) → 1 * x + k * x ≡ (k + 1) * x

@@ -7,7 +7,8 @@ use Rattle.zeta_model.specs.Words.{word_cmp}
 use Rattle.zeta_model.specs.Duality.{dual_of, representative_of}
 use Rattle.word_letters.specs.Order.{word_cmp_total, same_words}
 use Rattle.dual_reply.specs.Sums.{one_at}
-use Rattle.dual_reply.proofs.DualityLemmas.{dual_of-dual_of, representative_cases, representative_of-dual_of, representative_of-representative_of}
+use Rattle.zeta_model.proofs.DualityLaws.{dual_of-dual_of, representative_of-dual_of}
+use Rattle.dual_reply.proofs.DualityLemmas.{representative_cases, representative_of-representative_of}
 
 abbrev pub W : Type 0
 W = List Letter

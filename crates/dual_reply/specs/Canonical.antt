@@ -2,7 +2,8 @@
 use Rattle.std.specs.Prelude.{◌≡◌, ℕ, ◌↔◌, List, map}
 use Rattle.dual_reply.specs.Grammar.{Term, IsAccepted}
 use Rattle.dual_reply.specs.Reading.{signed_of}
-use Rattle.dual_reply.specs.Sums.{word_sum, difference, IsDualSum}
+use Rattle.zeta_model.specs.Sums.{difference}
+use Rattle.dual_reply.specs.Sums.{word_sum, IsDualSum}
 use Rattle.dual_reply.specs.Listing.{IsListing}
 use Rattle.dual_reply.specs.Reply.{text_of, refusal, reply_of}
 use Rattle.dual_reply.specs.declared.listing.Entry.{Entry}

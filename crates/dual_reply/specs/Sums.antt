@@ -25,9 +25,6 @@ abbrev pub folded_sum : ℕ → List Signed → List Letter → ℕ
 folded_sum m [] w = 0
 folded_sum m (t ∷ ts) w = number_of m t.negative * one_at (representative_of t.word) w + folded_sum m ts w
 
-abbrev pub difference : ℕ → (List Letter → ℕ) → (List Letter → ℕ) → List Letter → ℕ
-difference m s t w = s w + (m - 1) * t w
-
 -- the combination of the sums u - dual u, each u with its number
 abbrev pub dual_sum : ℕ → List (ℕ × List Letter) → List Letter → ℕ
 dual_sum m [] w = 0

@@ -1,5 +1,7 @@
 //! A disk on a real file.
-ghost use Rattle.std.specs.Prelude.{◌≡◌, ◌≤◌, length, IfOk};
+ghost use Rattle.std.specs.Prelude.{None, IfSome, ◌<◌, take, drop, ◌≡◌, ◌≤◌, length, IfOk};
+ghost use Rattle.outside_io.specs.Moments.{IsImage};
+ghost use Rattle.outside_io.specs.Traces.{Written, CutOff, Synced};
 ghost use Rattle.outside_io.specs.Causes.{HasCause, Rose};
 ghost use Rattle.std.specs.Io.{ReadsAtMost};
 
@@ -173,6 +175,8 @@ impl<'r, R: Files> FileDisk<'r, R> {
 }
 
 impl<R: Files> Disk for FileDisk<'_, R> {
+    ghost trace = { λ _. None };
+
     ghost faults = { λ d. d };
 
     fn len(&mut self) -> Result<u64, Failed> {

@@ -1,12 +1,12 @@
--- What a disk in memory shows.
-use Rattle.std.specs.Prelude.{ℕ, ◌+◌, ◌==◌, ◌||◌, List, ◌++◌, take, drop, length, Bool, false, Option}
+-- What a disk in memory shows: its moments, and which calls fail.
+use Rattle.std.specs.Prelude.{◌≡◌, ◌⊎◌, IsTrue, ℕ, ◌==◌, ◌||◌, List, Bool, false, Option, Result, MatchResult}
 use Rattle.std.specs.Option.{option_map_or}
 use Rattle.outside_io.specs.Mem.{up, is_listed}
+use Rattle.outside_io.specs.Traces.{Trace}
 
--- the contents; the number of the next call and the calls that fail; the number of the next change, that of the change at
--- which it stops, and whether it has stopped; the counts of faults and of calls that found no memory
-pub record Kept : Type 0 where
-  pub contents : List ℕ
+-- the number of the next call and the calls that fail; the number of the next change, that of the change at which the disk
+-- stops, and whether it has stopped; the counts of faults and of calls that found no memory
+pub record Counts : Type 0 where
   pub calls : ℕ
   pub fails : List ℕ
   pub changes : ℕ
@@ -15,34 +15,38 @@ pub record Kept : Type 0 where
   pub faults : ℕ
   pub starved : ℕ
 
--- the next call is a change and the one at which it stops
-abbrev pub is_stop : Kept → Bool
-is_stop d = option_map_or (λ n. n == d.changes) d.stop false
+pub record Kept : Type 0 where
+  pub trace : Trace
+  pub counts : Counts
+
+-- the next change is the one at which it stops
+abbrev pub is_stop : Counts → Bool
+is_stop c = option_map_or (λ n. n == c.changes) c.stop false
 
 -- a call is counted
-abbrev pub called : Kept → Kept
-called d = record d { calls = up d.calls }
+abbrev pub called : Counts → Counts
+called c = record c { calls = up c.calls }
 
 -- and it is one of write_at, cut and sync
-abbrev pub changing : Kept → Kept
-changing d = record (called d) { changes = up d.changes; is_stopped = d.is_stopped || is_stop d }
+abbrev pub changing : Counts → Counts
+changing c = record (called c) { changes = up c.changes; is_stopped = c.is_stopped || is_stop c }
 
--- a call of len or read_at is to fail
-abbrev pub is_refused : Kept → Bool
-is_refused d = d.is_stopped || is_listed d.fails d.calls
+-- the next call is to fail, if it is one of len and read_at
+abbrev pub is_refused : Counts → Bool
+is_refused c = c.is_stopped || is_listed c.fails c.calls
 
--- a call of write_at, cut or sync is to fail
-abbrev pub is_change_refused : Kept → Bool
-is_change_refused d = (d.is_stopped || is_stop d) || is_listed d.fails d.calls
+-- the next call is to fail, if it is one of write_at, cut and sync
+abbrev pub is_change_refused : Counts → Bool
+is_change_refused c = (c.is_stopped || is_stop c) || is_listed c.fails c.calls
 
 -- a call failed
-abbrev pub failed : Kept → Kept
-failed d = record d { faults = up d.faults }
+abbrev pub failed : Counts → Counts
+failed c = record c { faults = up c.faults }
 
--- a call found no memory
-abbrev pub starved : Kept → Kept
-starved d = record (failed d) { starved = up d.starved }
+-- a call failed, and found no memory
+abbrev pub starved : Counts → Counts
+starved c = record (failed c) { starved = up c.starved }
 
--- bytes over what was there, and past its end
-abbrev pub overlaid : List ℕ → ℕ → List ℕ → List ℕ
-overlaid old at bytes = take at old ++ bytes ++ drop (at + length bytes) old
+-- a change failed exactly where it was to fail or found no memory
+abbrev pub Changes : {T E : Type 0} → Counts → Counts → Result T E → Type 0
+Changes old new result = MatchResult result (λ _. (is_change_refused old ≡ false) × (new ≡ changing old)) (λ _. (IsTrue (is_change_refused old) × (new ≡ failed (changing old))) ⊎ (new ≡ starved (changing old)))
