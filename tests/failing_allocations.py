@@ -1,0 +1,63 @@
+#!/usr/bin/env python3
+"""Runs `mzv` with each of its allocations failing in turn, and looks at what it says.
+
+    tests/failing_allocations.py PATH_TO_MZV
+
+With ample memory a command gives its whole output. With one allocation that fails it has to end with status 1 and a first
+part of that output, or, where the allocation does not matter, with the whole output and its status; words that fit no
+command and parameters that fail their test have to be refused whatever memory there is, unless the words themselves could
+not be had. The last line is 'N passed, M failed'.
+"""
+import os
+import subprocess
+import sys
+import tempfile
+
+HERE = os.path.dirname(os.path.abspath(__file__))
+LINES = b"z(2,1)-z(3)\nz(2,1)+z(3)\n" + b"z(3,1)+z(2)\n" * 3 + b"z(25)\n-z(4)+" + b"+".join(
+    b"z(%d,1)" % k for k in range(2, 24)) + b"\n" + b"z(2)-" * 400 + b"z(3)\nz(2,2)"
+CASES = [
+    (["dual", "101"], LINES),
+    (["dual", "9223372036854775807"], LINES),
+    (["dual", "101"], b""),
+    (["dual", "2"], LINES),
+    (["dual", "x"], LINES),
+    ([], LINES),
+]
+
+
+def run(mzv, words, given, library, at, count_file):
+    environment = dict(os.environ, LD_PRELOAD=library, FAIL_AT=str(at), FAIL_COUNT=count_file)
+    done = subprocess.run([mzv] + words, input=given, capture_output=True, env=environment, timeout=60)
+    with open(count_file) as told:
+        count = int(told.read())
+    return done.returncode, done.stdout, done.stderr, count
+
+
+def main():
+    mzv = os.path.abspath(sys.argv[1])
+    passed = failed = 0
+    with tempfile.TemporaryDirectory() as work:
+        library = os.path.join(work, "failing.so")
+        subprocess.run(["cc", "-O1", "-shared", "-fPIC", "-o", library, os.path.join(HERE, "failing_allocations.c")], check=True)
+        count_file = os.path.join(work, "count")
+        for words, given in CASES:
+            status, output, error, count = run(mzv, words, given, library, 0, count_file)
+            assert error == b"", error
+            seen = set()
+            for at in range(1, count + 1):
+                now, told, error, _ = run(mzv, words, given, library, at, count_file)
+                seen.add(now)
+                whole = now == status and told == output
+                if error == b"" and (whole or (now == 1 and output.startswith(told))):
+                    passed += 1
+                else:
+                    failed += 1
+                    print("words %s, allocation %d: status %d, %d bytes" % (words, at, now, len(told)))
+            print("words %s: status %d, %d allocations, statuses with one failing: %s" % (words, status, count, sorted(seen)))
+    print("%d passed, %d failed" % (passed, failed))
+    sys.exit(failed > 0)
+
+
+if __name__ == "__main__":
+    main()
