@@ -3,8 +3,8 @@
 
     bench/beside.py NAME [RUNS]
 
-NAME is a folder of bench/ with `proved.txt`, the main file of a Rattle program, `deps`, the crates that it uses, and
-`plain.rs`, the twin. The program is built over a copy of crates/ in a folder of its own, so that nothing here is a
+NAME is a folder of bench/ with `proved.txt`, the main file of a Rattle program, `deps`, the crates that it uses, `proofs/`,
+its proof files with the ending .txt, and `plain.rs`, the twin. The program is built over a copy of crates/ in a folder of its own, so that nothing here is a
 part of the gate. The best run counts for each; take the ratio.
 """
 import os
@@ -28,6 +28,12 @@ def build_proved(name, work):
     crate = os.path.join(work, "crates", "bench_" + name)
     os.makedirs(os.path.join(crate, "src"))
     shutil.copy(os.path.join(source, "proved.txt"), os.path.join(crate, "src", "main.rt"))
+    proofs = os.path.join(source, "proofs")
+    for folder, _, files in os.walk(proofs):
+        to = os.path.join(crate, "proofs", os.path.relpath(folder, proofs))
+        os.makedirs(to, exist_ok=True)
+        for file in files:
+            shutil.copy(os.path.join(folder, file), os.path.join(to, file[:-4] + ".antt"))
     subprocess.run(["rt", "run"], cwd=crate, check=True, stdout=subprocess.DEVNULL, stderr=subprocess.DEVNULL)
     return os.path.join(crate, "out", "bench_" + name)
 

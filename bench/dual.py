@@ -6,7 +6,6 @@
 The best of five runs counts for each. Take the ratios, not the seconds.
 """
 import os
-import resource
 import subprocess
 import sys
 import tempfile
@@ -16,20 +15,19 @@ HERE = os.path.dirname(os.path.abspath(__file__))
 RUNS = 5
 
 
-def run(words, path):
-    """The seconds that a program takes on a file, and its peak memory in KiB."""
+def seconds_of(words, path):
+    """The seconds that a program takes on a file."""
     with open(path, "rb") as given, open(os.devnull, "wb") as sink:
         begin = time.perf_counter()
-        child = subprocess.Popen(words, stdin=given, stdout=sink)
-        _, status, usage = os.wait4(child.pid, 0)
-        seconds = time.perf_counter() - begin
-    assert status == 0, (words, status)
-    return seconds, usage.ru_maxrss
+        subprocess.run(words, stdin=given, stdout=sink, check=True)
+        return time.perf_counter() - begin
 
 
-def best(words, path):
-    results = [run(words, path) for _ in range(RUNS)]
-    return min(seconds for seconds, _ in results), max(memory for _, memory in results)
+def memory_of(words, path):
+    """Its peak memory in KiB, as time(1) tells it."""
+    with open(path, "rb") as given, open(os.devnull, "wb") as sink:
+        told = subprocess.run(["time", "-f", "%M"] + words, stdin=given, stdout=sink, stderr=subprocess.PIPE, check=True)
+    return int(told.stderr)
 
 
 def make(folder, lines):
@@ -45,13 +43,16 @@ def main():
     folder = "/dev/shm" if os.path.isdir("/dev/shm") else None
     with tempfile.TemporaryDirectory(dir=folder) as work:
         whole, tenth = make(work, lines), make(work, lines // 10)
-        awk, _ = best(["awk", "{print $0}"], whole)
-        dual, memory = best([mzv, "dual", "2305843009213693951"], whole)
-        _, memory_tenth = best([mzv, "dual", "2305843009213693951"], tenth)
+        command = [mzv, "dual", "2305843009213693951"]
+        awk = dual = float("inf")
+        for _ in range(RUNS):
+            awk = min(awk, seconds_of(["awk", "{print $0}"], whole))
+            dual = min(dual, seconds_of(command, whole))
         print("lines %d, bytes %d" % (lines, os.path.getsize(whole)))
         print("awk  %.3f s" % awk)
         print("dual %.3f s, %.2f times awk" % (dual, dual / awk))
-        print("peak memory of dual: %d KiB at %d lines, %d KiB at %d lines" % (memory, lines, memory_tenth, lines // 10))
+        print("peak memory of dual: %d KiB at %d lines, %d KiB at %d lines" % (
+            memory_of(command, whole), lines, memory_of(command, tenth), lines // 10))
 
 
 if __name__ == "__main__":

@@ -45,5 +45,5 @@ fn main() {
     for _ in 0..20000 {
         add_scaled(&mut row, 1_234_567_890_123_456_789, &other, modulus);
     }
-    println!("{}", row.iter().find(|e| e.0 == 6).map_or(0, |e| e.1));
+    println!("{}", row.iter().fold(0u64, |sum, e| sum.wrapping_add(e.1)));
 }

@@ -46,8 +46,8 @@ fn sums_are_folded_by_duality(rt: HostRuntime) -> Result<(), AllocError> {
 
 #[test]
 fn other_lines_are_refused(rt: HostRuntime) -> Result<(), AllocError> {
-    let lines: [&str; 16] = [
-        "", "z(3", "2*z(3)", "z(25)", "z(12,13)", "z(1,2)", "z(2 4)", "z(02)", "z(1000)",
+    let lines: [&str; 17] = [
+        "", "z(3", "2*z(3)", "z(25)", "z(12,13)", "z(1,2)", "z(2 4)", "z(02)", "z(999)", "z(1000)",
         "z(2)z(3)", "z(2)+", "+-z(2)", "z(2)\n", "z(2,)", "z()", "z(2,0)",
     ];
     for line in lines {
