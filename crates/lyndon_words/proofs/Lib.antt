@@ -1,0 +1,9 @@
+pub mod WordLess
+pub mod LyndonConcat
+pub mod OneWay
+pub mod Suffixes
+pub mod JoinFront
+pub mod AdmissibleFactors
+pub mod Products
+pub mod Factorising
+pub mod Listings
