@@ -1,0 +1,4 @@
+pub mod TermLemmas
+pub mod KnownTerms
+pub mod Adding
+pub mod Sorting
