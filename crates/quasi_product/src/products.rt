@@ -1,0 +1,130 @@
+//! The product of two words.
+ghost use Rattle.std.specs.Prelude.{◌≡◌, ℕ, ◌+◌, ◌%◌, ◌<◌, ◌≤◌, ◌↔◌, ◌++◌, true, length, drop, List, OnOk, IfOk, IfSome, IsErrOf};
+ghost use Rattle.quasi_product.specs.Gains.{count_behind, Gains};
+ghost use Rattle.word_sums.specs.Terms.{coefficient_of, AllIn};
+ghost use Rattle.zeta_model.specs.Product.{IsLetter, prod, rest};
+ghost use Rattle.zeta_model.specs.Sums.{sum_of};
+ghost use Rattle.zeta_model.specs.declared.Letter.{Letter};
+
+use crate::{Letters, ProductFault};
+use residues::Ring;
+use std::alloc::{AllocError, Global};
+use word_letters::{MAX_WEIGHT, Word};
+use word_sums::WordSum;
+
+/// The product of two covered words, with coefficients in the ring: each word has the number of its places in the list of
+/// the words of the product (Hoffman 2000).
+///
+/// `TooLong(n)` exactly where the sum `n` of the two weights is over 24; `Memory` where memory is wanting.
+pub fn product<L: Letters, R: Ring>(
+    alloc: Global,
+    ring: &R,
+    u: Word,
+    v: Word,
+) -> Result<WordSum<R>, ProductFault>
+    requires covers_u { L.alphabet.covered u ≡ true }
+    requires covers_v { L.alphabet.covered v ≡ true }
+    ensures value { IfOk result (λ sum. (t : List Letter) → coefficient_of (R.value ring.now) sum t
+        ≡ sum_of (prod L.alphabet u v) t % R.modulus ring.now) }
+    ensures in_ring { IfOk result (λ sum. AllIn (R.has ring.now) sum) }
+    ensures fits { OnOk result (length u + length v ≤ 24) }
+    ensures too_long { (n : ℕ) →
+        IsErrOf result (ProductFault.TooLong n) ↔ ((n ≡ length u + length v) × (24 < n)) }
+{
+    let weight = u.weight() + v.weight();
+    if weight > MAX_WEIGHT {
+        return Err(ProductFault::TooLong(weight));
+    }
+    let mut sum = WordSum::new(alloc);
+    match add_products::<L, R>(ring, Word::empty(), u, v, &mut sum) {
+        Ok(()) => Ok(sum),
+        Err(e) => Err(ProductFault::Memory(e)),
+    }
+}
+
+/// Adds each word of the product of `u` and `v`, with `front` before it. After want of memory only some of them are added.
+fn add_products<L: Letters, R: Ring>(
+    ring: &R,
+    front: Word,
+    u: Word,
+    v: Word,
+    sum: &mut WordSum<R>,
+) -> Result<(), AllocError>
+    requires covers_u { L.alphabet.covered u ≡ true }
+    requires covers_v { L.alphabet.covered v ≡ true }
+    requires fits { length front + length u + length v ≤ 24 }
+    requires in_ring { AllIn (R.has ring.now) sum.old }
+    ensures ok { OnOk result (Gains (R.modulus ring.now) (coefficient_of (R.value ring.now) sum.old)
+        (coefficient_of (R.value ring.now) sum.new) (count_behind L.alphabet front u v)) }
+    ensures in_ring { AllIn (R.has ring.now) sum.new }
+{
+    if u.weight() == 0 {
+        sum.add_term(ring, joined(front, v), ring.one())?;
+        return Ok(());
+    }
+    if v.weight() == 0 {
+        sum.add_term(ring, joined(front, u), ring.one())?;
+        return Ok(());
+    }
+    let (a, u_rest) = cut::<L>(u);
+    let (b, v_rest) = cut::<L>(v);
+    add_products::<L, R>(ring, joined(front, a), u_rest, v, sum)?;
+    add_products::<L, R>(ring, joined(front, b), u, v_rest, sum)?;
+    match join_letters::<L>(a, b) {
+        None => Ok(()),
+        Some(c) => {
+            add_products::<L, R>(ring, joined(front, c), u_rest, v_rest, sum)?;
+            Ok(())
+        }
+    }
+}
+
+/// The first letter of a covered word, and the rest.
+fn cut<L: Letters>(w: Word) -> (Word, Word)
+    requires some { 0 < length w }
+    requires fits { length w ≤ 24 }
+    requires covered { L.alphabet.covered w ≡ true }
+    ensures letter { IsLetter L.alphabet result.0 }
+    ensures first { result.0 ≡ L.alphabet.first w }
+    ensures rest { result.1 ≡ rest L.alphabet w }
+    ensures covers { L.alphabet.covered result.1 ≡ true }
+    ensures some { 0 < length result.0 }
+    ensures weights { length result.0 + length result.1 ≡ length w }
+{
+    let a = L::first(w);
+    (a, behind(w, a.weight()))
+}
+
+/// What two letters join to, of their weight together.
+fn join_letters<L: Letters>(a: Word, b: Word) -> Option<Word>
+    requires letter_a { IsLetter L.alphabet a }
+    requires letter_b { IsLetter L.alphabet b }
+    requires fits { length a + length b ≤ 24 }
+    ensures is { result ≡ L.alphabet.joined a b }
+    ensures weight { IfSome result (λ c. length c ≡ length a + length b) }
+{
+    L::join(a, b)
+}
+
+/// The word behind its first `n` letters.
+fn behind(w: Word, n: u32) -> Word
+    requires { n ≤ length w }
+    ensures { result ≡ drop n w }
+{
+    let mut rest = w;
+    for i in 0..n {
+        rest = rest.tail();
+    }
+    rest
+}
+
+/// One word with another behind it.
+fn joined(front: Word, w: Word) -> Word
+    requires { length front + length w ≤ 24 }
+    ensures { result ≡ front ++ w }
+{
+    match front.concat(w) {
+        Ok(whole) => whole,
+        Err(_) => w,
+    }
+}
