@@ -4,11 +4,12 @@ use Rattle.zeta_model.specs.Duality.{dual_of, representative_of}
 use Rattle.zeta_model.specs.Modular.{Same}
 use Rattle.zeta_model.proofs.ModularLemmas.{same-add, same-add_right, same-mul_left, same-multiple}
 use Rattle.zeta_model.specs.Sums.{difference}
-use Rattle.dual_reply.specs.Sums.{one_at, number_of, word_sum, folded_sum, dual_sum}
+use Rattle.zeta_model.specs.Sums.{single}
+use Rattle.dual_reply.specs.Sums.{number_of, word_sum, folded_sum, dual_sum}
 use Rattle.dual_reply.specs.declared.reader.Signed.{Signed}
 use Rattle.zeta_model.proofs.DualityLaws.{representative_of-dual_of}
 use Rattle.dual_reply.proofs.DualityLemmas.{representative_cases}
-use Rattle.dual_reply.proofs.SumLemmas.{W, one_at-same, one_at-other, word_cases, folded_at, by_kind, folded_at-none, folded_at-self, folded_at-pair, one_at-representative_of}
+use Rattle.dual_reply.proofs.SumLemmas.{W, single-same, single-other, word_cases, folded_at, by_kind, folded_at-none, folded_at-self, folded_at-pair, single-representative_of}
 
 times_one_more : (k x : ℕ) → 1 * x + k * x ≡ (k + 1) * x
 times_one_more k x = omega arith
@@ -43,10 +44,10 @@ module _ (r : W) where
   folded_sum-is m (t ∷ ts) =
       let n = number_of m t.negative in
       let one : 1 * folded_at (word_sum m ts) r ≡ folded_at (word_sum m ts) r = omega arith in
-      let whole : (w : W) → n * one_at t.word w + 1 * word_sum m ts w ≡ word_sum m (t ∷ ts) w = λ w. omega arith in
-      (λ i. n * one_at-representative_of t.word r i + folded_sum-is m ts i)
-      ∙ (λ i. n * folded_at (one_at t.word) r + sym one i)
-      ∙ sym (folded_at-plus (one_at t.word) (word_sum m ts) n 1)
+      let whole : (w : W) → n * single t.word w + 1 * word_sum m ts w ≡ word_sum m (t ∷ ts) w = λ w. omega arith in
+      (λ i. n * single-representative_of t.word r i + folded_sum-is m ts i)
+      ∙ (λ i. n * folded_at (single t.word) r + sym one i)
+      ∙ sym (folded_at-plus (single t.word) (word_sum m ts) n 1)
       ∙ (λ i. folded_at (λ w. whole w i) r)
 
   -- a combination of sums u - dual u folds to nothing
@@ -54,13 +55,13 @@ module _ (r : W) where
   folded_at-dual_sum m [] h = ap (λ k. k % m) (sym (folded_sum-is m []))
   folded_at-dual_sum m (c ∷ cs) h =
       let u = c.1 in
-      let x = one_at (representative_of u) r in
-      let inner = λ (w : W). one_at u w + (m - 1) * one_at (dual_of u) w in
-      let one : (w : W) → 1 * one_at u w + (m - 1) * one_at (dual_of u) w ≡ inner w = λ w. omega arith in
+      let x = single (representative_of u) r in
+      let inner = λ (w : W). single u w + (m - 1) * single (dual_of u) w in
+      let one : (w : W) → 1 * single u w + (m - 1) * single (dual_of u) w ≡ inner w = λ w. omega arith in
       let unit : (w : W) → c.0 * inner w + 1 * dual_sum m cs w ≡ dual_sum m (c ∷ cs) w = λ w. omega arith in
-      let a : folded_at inner r ≡ 1 * folded_at (one_at u) r + (m - 1) * folded_at (one_at (dual_of u)) r = (λ i. folded_at (λ w. sym (one w) i) r) ∙ folded_at-plus (one_at u) (one_at (dual_of u)) 1 (m - 1) in
-      let b : folded_at (one_at (dual_of u)) r ≡ x = sym (one_at-representative_of (dual_of u) r) ∙ ap (λ v. one_at v r) (representative_of-dual_of u) in
-      let d : 1 * folded_at (one_at u) r + (m - 1) * folded_at (one_at (dual_of u)) r ≡ 1 * x + (m - 1) * x = λ i. 1 * sym (one_at-representative_of u r) i + (m - 1) * b i in
+      let a : folded_at inner r ≡ 1 * folded_at (single u) r + (m - 1) * folded_at (single (dual_of u)) r = (λ i. folded_at (λ w. sym (one w) i) r) ∙ folded_at-plus (single u) (single (dual_of u)) 1 (m - 1) in
+      let b : folded_at (single (dual_of u)) r ≡ x = sym (single-representative_of (dual_of u) r) ∙ ap (λ v. single v r) (representative_of-dual_of u) in
+      let d : 1 * folded_at (single u) r + (m - 1) * folded_at (single (dual_of u)) r ≡ 1 * x + (m - 1) * x = λ i. 1 * sym (single-representative_of u r) i + (m - 1) * b i in
       let e : 1 * x + (m - 1) * x ≡ m * x = times m x h in
       let f : folded_at (dual_sum m (c ∷ cs)) r ≡ c.0 * folded_at inner r + 1 * folded_at (dual_sum m cs) r = (λ i. folded_at (λ w. sym (unit w) i) r) ∙ folded_at-plus inner (dual_sum m cs) c.0 1 in
       let g : c.0 * folded_at inner r ≡ c.0 * (m * x) = ap (λ k. c.0 * k) (a ∙ d ∙ e) in
@@ -88,7 +89,7 @@ module _ (r : W) where
 -- what folding changes in a sum, as a combination of sums u - dual u
 abbrev pub corrections : ℕ → List Signed → List (ℕ × W)
 corrections m [] = []
-corrections m (t ∷ ts) = (number_of m t.negative * (1 - one_at (representative_of t.word) t.word), t.word) ∷ corrections m ts
+corrections m (t ∷ ts) = (number_of m t.negative * (1 - single (representative_of t.word) t.word), t.word) ∷ corrections m ts
 
 abbrev pub scaled : ℕ → List (ℕ × W) → List (ℕ × W)
 scaled k [] = []
@@ -97,7 +98,7 @@ scaled k (c ∷ cs) = (k * c.0, c.1) ∷ scaled k cs
 dual_sum-scaled : (m k : ℕ) (cs : List (ℕ × W)) (w : W) → dual_sum m (scaled k cs) w ≡ k * dual_sum m cs w
 dual_sum-scaled m k [] w = omega arith
 dual_sum-scaled m k (c ∷ cs) w =
-    let x = one_at c.1 w + (m - 1) * one_at (dual_of c.1) w in
+    let x = single c.1 w + (m - 1) * single (dual_of c.1) w in
     let e : k * c.0 * x + k * dual_sum m cs w ≡ k * (c.0 * x + dual_sum m cs w) = omega arith in
     (λ i. k * c.0 * x + dual_sum-scaled m k cs w i) ∙ e
 
@@ -105,31 +106,31 @@ dual_sum-append : (m : ℕ) (cs ds : List (ℕ × W)) (w : W) → dual_sum m (cs
 dual_sum-append m [] ds w = omega arith
 dual_sum-append m (c ∷ cs) ds w = omega (arith, dual_sum-append m cs ds w)
 
-term_corrected : (m n : ℕ) (u w : W) → 0 < m → Same m (n * one_at u w) (n * one_at (representative_of u) w + n * (1 - one_at (representative_of u) u) * (one_at u w + (m - 1) * one_at (dual_of u) w))
+term_corrected : (m n : ℕ) (u w : W) → 0 < m → Same m (n * single u w) (n * single (representative_of u) w + n * (1 - single (representative_of u) u) * (single u w + (m - 1) * single (dual_of u) w))
 term_corrected m n u w h =
-    let x = one_at u w in
-    let y = one_at (dual_of u) w in
+    let x = single u w in
+    let y = single (dual_of u) w in
     ⊎_elim
     (λ e.
-    let q : one_at (representative_of u) u ≡ 1 = one_at-same (representative_of u) u e in
+    let q : single (representative_of u) u ≡ 1 = single-same (representative_of u) u e in
     let z : n * x ≡ n * x + n * (1 - 1) * (x + (m - 1) * y) = omega arith in
-    ap (λ k. k % m) (z ∙ (λ i. n * one_at (sym e i) w + n * (1 - sym q i) * (x + (m - 1) * y))))
+    ap (λ k. k % m) (z ∙ (λ i. n * single (sym e i) w + n * (1 - sym q i) * (x + (m - 1) * y))))
     (λ e.
-    let q : one_at (representative_of u) u ≡ 0 = one_at-other (representative_of u) u e in
+    let q : single (representative_of u) u ≡ 0 = single-other (representative_of u) u e in
     let d : representative_of u ≡ dual_of u = ⊎_elim (λ f. absurd (e f)) (λ f. f) (representative_cases u) in
     let t : 1 * y + (m - 1) * y ≡ m * y = times m y h in
     let s : n * (1 * y + (m - 1) * y) ≡ n * (m * y) = ap (λ k. n * k) t in
     let z : n * x + m * (n * y) ≡ n * y + n * (1 - 0) * (x + (m - 1) * y) = omega arith in
-    sym (same-multiple m (n * x) (n * y)) ∙ ap (λ k. k % m) (z ∙ (λ i. n * one_at (sym d i) w + n * (1 - sym q i) * (x + (m - 1) * y))))
+    sym (same-multiple m (n * x) (n * y)) ∙ ap (λ k. k % m) (z ∙ (λ i. n * single (sym d i) w + n * (1 - sym q i) * (x + (m - 1) * y))))
     (word_cases (representative_of u) u)
 
 word_sum_corrected : (m : ℕ) (ts : List Signed) (w : W) → 0 < m → Same m (word_sum m ts w) (folded_sum m ts w + dual_sum m (corrections m ts) w)
 word_sum_corrected m [] w h = refl
 word_sum_corrected m (t ∷ ts) w h =
     let n = number_of m t.negative in
-    let a = n * one_at t.word w in
-    let b = n * one_at (representative_of t.word) w in
-    let c = n * (1 - one_at (representative_of t.word) t.word) * (one_at t.word w + (m - 1) * one_at (dual_of t.word) w) in
+    let a = n * single t.word w in
+    let b = n * single (representative_of t.word) w in
+    let c = n * (1 - single (representative_of t.word) t.word) * (single t.word w + (m - 1) * single (dual_of t.word) w) in
     let f = folded_sum m ts w in
     let d = dual_sum m (corrections m ts) w in
     let e : (b + c) + (f + d) ≡ (b + f) + (c + d) = omega arith in

@@ -7,11 +7,12 @@ use Rattle.zeta_model.specs.declared.Letter.{Letter}
 use Rattle.zeta_model.specs.Duality.{representative_of}
 use Rattle.zeta_model.specs.Modular.{Same}
 use Rattle.zeta_model.proofs.ModularLemmas.{same-add_right, same-cancel}
-use Rattle.dual_reply.specs.Sums.{one_at, number_of, folded_sum}
+use Rattle.zeta_model.specs.Sums.{single}
+use Rattle.dual_reply.specs.Sums.{number_of, folded_sum}
 use Rattle.dual_reply.specs.Listing.{listing_cmp, entry_at, with_entry, with_terms, entry_of, listing_of, IsListing}
 use Rattle.dual_reply.specs.declared.listing.Entry.{Entry}
 use Rattle.dual_reply.specs.declared.reader.Signed.{Signed}
-use Rattle.dual_reply.proofs.SumLemmas.{one_at-same, one_at-other}
+use Rattle.dual_reply.proofs.SumLemmas.{single-same, single-other}
 use Rattle.dual_reply.proofs.ListingLemmas.{IsBehind, IsIncreasing, AreReduced, behind_behind, turned, listing_same, listing_itself, with_entry_increasing, with_entry_all, entry_at-with_entry}
 
 abbrev W : Type 0
@@ -41,7 +42,7 @@ module _ (m : ℕ) (low : 3 ≤ m) where
   entry_at-with_terms : (w : W) (es : List Entry) (ts : List Signed) → Same m (entry_at (with_terms m es ts) w) (entry_at es w + folded_sum m ts w)
   entry_at-with_terms w es [] = let e : entry_at es w ≡ entry_at es w + 0 = omega arith in ap (λ n. n % m) e
   entry_at-with_terms w es (t ∷ ts) =
-      let x = number_of m t.negative * one_at (representative_of t.word) w in
+      let x = number_of m t.negative * single (representative_of t.word) w in
       let e : (x + entry_at es w) + folded_sum m ts w ≡ entry_at es w + (x + folded_sum m ts w) = omega arith in
       entry_at-with_terms w (with_entry m (entry_of m t) es) ts
       ∙ same-add_right m (entry_at (with_entry m (entry_of m t) es) w) (x + entry_at es w) (folded_sum m ts w) (entry_at-with_entry m (entry_of m t) w es)
@@ -58,12 +59,12 @@ module _ (m : ℕ) (low : 3 ≤ m) where
   not_there : (w : W) (es : List Entry) → IsBehind w es → entry_at es w ≡ 0
   not_there w [] b = refl
   not_there w (e ∷ es) b =
-      let z : one_at e.word w ≡ 0 = one_at-other e.word w (λ h. let q : listing_cmp w e.word ≡ Equal = listing_itself w e.word (sym h) in let l : listing_cmp w e.word ≡ Less = b.0 in let c : Less ≡ Equal = sym l ∙ q in cc) in
+      let z : single e.word w ≡ 0 = single-other e.word w (λ h. let q : listing_cmp w e.word ≡ Equal = listing_itself w e.word (sym h) in let l : listing_cmp w e.word ≡ Less = b.0 in let c : Less ≡ Equal = sym l ∙ q in cc) in
       let r : entry_at es w ≡ 0 = not_there w es b.1 in
       (λ i. e.residue * z i + r i) ∙ omega arith
 
   head_at : (e : Entry) (es : List Entry) → IsBehind e.word es → entry_at (e ∷ es) e.word ≡ e.residue
-  head_at e es b = (λ i. e.residue * one_at-same e.word e.word refl i + not_there e.word es b i) ∙ omega arith
+  head_at e es b = (λ i. e.residue * single-same e.word e.word refl i + not_there e.word es b i) ∙ omega arith
 
   -- an entry cannot stand in the one list alone
   alone : (r : ℕ) → 0 < r → r < m → Same m r 0 → ⊥
@@ -91,10 +92,10 @@ module _ (m : ℕ) (low : 3 ≤ m) where
 
   tails : (e f : Entry) (es fs : List Entry) → e ≡ f → ((w : W) → Same m (entry_at (e ∷ es) w) (entry_at (f ∷ fs) w)) → (w : W) → Same m (entry_at es w) (entry_at fs w)
   tails e f es fs q h w =
-      let x = e.residue * one_at e.word w in
+      let x = e.residue * single e.word w in
       let a : entry_at es w + x ≡ x + entry_at es w = omega arith in
       let b : x + entry_at fs w ≡ entry_at fs w + x = omega arith in
-      same-cancel m (entry_at es w) (entry_at fs w) x (omega arith) (ap (λ n. n % m) a ∙ h w ∙ ap (λ g. (g.residue * one_at g.word w + entry_at fs w) % m) (sym q) ∙ ap (λ n. n % m) b)
+      same-cancel m (entry_at es w) (entry_at fs w) x (omega arith) (ap (λ n. n % m) a ∙ h w ∙ ap (λ g. (g.residue * single g.word w + entry_at fs w) % m) (sym q) ∙ ap (λ n. n % m) b)
 
   pub listing_unique : (es fs : List Entry) → IsIncreasing es → IsIncreasing fs → AreReduced m es → AreReduced m fs → ((w : W) → Same m (entry_at es w) (entry_at fs w)) → es ≡ fs
   unfolding IsStrictlySortedBy

@@ -11,7 +11,7 @@ use Rattle.zeta_model.specs.Words.{word_cmp}
 use Rattle.zeta_model.specs.Modular.{Same}
 use Rattle.zeta_model.proofs.ModularLemmas.{same-add_left, same-add_right, same-mul_right, same-mod}
 use Rattle.word_letters.specs.Order.{word_cmp_total, same_words}
-use Rattle.dual_reply.specs.Sums.{one_at}
+use Rattle.zeta_model.specs.Sums.{single}
 use Rattle.dual_reply.specs.Listing.{listing_cmp, entry_at, placed, with_entry}
 use Rattle.dual_reply.specs.declared.listing.Entry.{Entry}
 
@@ -96,27 +96,27 @@ module _ (m : ℕ) (e : Entry) where
     with_entry_all [] h = (p, tt)
     with_entry_all (f ∷ fs) h = placed_all (listing_cmp e.word f.word) f fs (with_entry m e fs) h (with_entry_all fs h.1)
 
-  joined_at : (w : W) (f : Entry) (fs : List Entry) (s : ℕ) (b : Bool) → eqb s 0 ≡ b → entry_at (cond b fs (record { residue = s; word = f.word } ∷ fs)) w ≡ s * one_at f.word w + entry_at fs w
+  joined_at : (w : W) (f : Entry) (fs : List Entry) (s : ℕ) (b : Bool) → eqb s 0 ≡ b → entry_at (cond b fs (record { residue = s; word = f.word } ∷ fs)) w ≡ s * single f.word w + entry_at fs w
   joined_at w f fs s true t =
       let z : s ≡ 0 = eqb-true s 0 t in
-      let q : entry_at fs w ≡ 0 * one_at f.word w + entry_at fs w = omega arith in
-      q ∙ ap (λ n. n * one_at f.word w + entry_at fs w) (sym z)
+      let q : entry_at fs w ≡ 0 * single f.word w + entry_at fs w = omega arith in
+      q ∙ ap (λ n. n * single f.word w + entry_at fs w) (sym z)
   joined_at w f fs s false t = refl
 
-  placed_at : (w : W) (o : Ordering) (f : Entry) (fs longer : List Entry) → o ≡ listing_cmp e.word f.word → Same m (entry_at longer w) (e.residue * one_at e.word w + entry_at fs w) → Same m (entry_at (placed o m e f fs longer) w) (e.residue * one_at e.word w + entry_at (f ∷ fs) w)
+  placed_at : (w : W) (o : Ordering) (f : Entry) (fs longer : List Entry) → o ≡ listing_cmp e.word f.word → Same m (entry_at longer w) (e.residue * single e.word w + entry_at fs w) → Same m (entry_at (placed o m e f fs longer) w) (e.residue * single e.word w + entry_at (f ∷ fs) w)
   placed_at w Less f fs longer q h = refl
   placed_at w Equal f fs longer q h =
       let s = (f.residue + e.residue) % m in
-      let x = one_at f.word w in
-      let y : one_at e.word w ≡ x = ap (λ v. one_at v w) (listing_same e.word f.word (sym q)) in
+      let x = single f.word w in
+      let y : single e.word w ≡ x = ap (λ v. single v w) (listing_same e.word f.word (sym q)) in
       let a : Same m (s * x + entry_at fs w) ((f.residue + e.residue) * x + entry_at fs w) = same-add_right m (s * x) ((f.residue + e.residue) * x) (entry_at fs w) (same-mul_right m s (f.residue + e.residue) x (same-mod m (f.residue + e.residue))) in
       let b : (f.residue + e.residue) * x + entry_at fs w ≡ e.residue * x + (f.residue * x + entry_at fs w) = omega arith in
       ap (λ n. n % m) (joined_at w f fs s (eqb s 0) refl) ∙ a ∙ ap (λ n. n % m) b ∙ ap (λ n. (e.residue * n + (f.residue * x + entry_at fs w)) % m) (sym y)
   placed_at w Greater f fs longer q h =
-      let a = same-add_left m (entry_at longer w) (e.residue * one_at e.word w + entry_at fs w) (f.residue * one_at f.word w) h in
-      let b : f.residue * one_at f.word w + (e.residue * one_at e.word w + entry_at fs w) ≡ e.residue * one_at e.word w + (f.residue * one_at f.word w + entry_at fs w) = omega arith in
+      let a = same-add_left m (entry_at longer w) (e.residue * single e.word w + entry_at fs w) (f.residue * single f.word w) h in
+      let b : f.residue * single f.word w + (e.residue * single e.word w + entry_at fs w) ≡ e.residue * single e.word w + (f.residue * single f.word w + entry_at fs w) = omega arith in
       a ∙ ap (λ n. n % m) b
 
-  pub entry_at-with_entry : (w : W) (es : List Entry) → Same m (entry_at (with_entry m e es) w) (e.residue * one_at e.word w + entry_at es w)
+  pub entry_at-with_entry : (w : W) (es : List Entry) → Same m (entry_at (with_entry m e es) w) (e.residue * single e.word w + entry_at es w)
   entry_at-with_entry w [] = refl
   entry_at-with_entry w (f ∷ fs) = placed_at w (listing_cmp e.word f.word) f fs (with_entry m e fs) refl (entry_at-with_entry w fs)

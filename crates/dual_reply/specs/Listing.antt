@@ -8,7 +8,8 @@ use Rattle.std.specs.Ordering.{nat_cmp, on, then_cmp}
 use Rattle.zeta_model.specs.declared.Letter.{Letter}
 use Rattle.zeta_model.specs.Words.{word_cmp}
 use Rattle.zeta_model.specs.Duality.{representative_of}
-use Rattle.dual_reply.specs.Sums.{one_at, number_of, folded_sum}
+use Rattle.zeta_model.specs.Sums.{single}
+use Rattle.dual_reply.specs.Sums.{number_of, folded_sum}
 use Rattle.dual_reply.specs.declared.reader.Signed.{Signed}
 use Rattle.dual_reply.specs.declared.listing.Entry.{Entry}
 
@@ -19,7 +20,7 @@ listing_cmp = then_cmp (on length nat_cmp) word_cmp
 -- the coefficient of a word in a list of entries
 abbrev pub entry_at : List Entry → List Letter → ℕ
 entry_at [] w = 0
-entry_at (e ∷ es) w = e.residue * one_at e.word w + entry_at es w
+entry_at (e ∷ es) w = e.residue * single e.word w + entry_at es w
 
 -- the words increase, the residues are from 1 to m - 1, and they are the coefficients of the folded sum
 pub record IsListing (m : ℕ) (terms : List Signed) (es : List Entry) : Type 0 where
