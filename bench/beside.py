@@ -1,7 +1,7 @@
 #!/usr/bin/env python3
-"""Builds a proved program and its plain twin, and times them in turn.
+"""Builds proved programs and their plain twins, and times them in turn.
 
-    bench/beside.py NAME [RUNS]
+    bench/beside.py NAME.. [RUNS]
 
 NAME is a folder of bench/ with `proved.txt`, the main file of a Rattle program, `deps`, the crates that it uses, `proofs/`,
 its proof files with the ending .txt, and `plain.rs`, the twin. The program is built over a copy of crates/ in a folder of its own, so that nothing here is a
@@ -44,19 +44,31 @@ def build_plain(name, work):
     return plain
 
 
+def timed(program):
+    """The seconds of a run, and what it printed."""
+    begin = time.perf_counter()
+    told = subprocess.run([program], check=True, capture_output=True).stdout
+    return time.perf_counter() - begin, told
+
+
 def main():
-    name, runs = sys.argv[1], int(sys.argv[2]) if len(sys.argv) > 2 else 7
+    words = sys.argv[1:]
+    runs = int(words.pop()) if words[-1].isdigit() else 7
     with tempfile.TemporaryDirectory() as work:
-        programs = {"proved": build_proved(name, work), "plain": build_plain(name, work)}
-        words = {}
+        programs = {}
+        for name in words:
+            folder = os.path.join(work, name)
+            os.mkdir(folder)
+            programs[name, "proved"] = build_proved(name, folder)
+            programs[name, "plain"] = build_plain(name, folder)
+        rows = {which: [] for which in programs}
         for _ in range(runs):
-            for kind, program in programs.items():
-                begin = time.perf_counter()
-                told = subprocess.run([program], check=True, capture_output=True).stdout
-                words.setdefault(kind, []).append((time.perf_counter() - begin, told))
-        assert len({told for rows in words.values() for _, told in rows}) == 1, "the two differ"
-        best = {kind: min(seconds for seconds, _ in rows) for kind, rows in words.items()}
-        print("%s: proved %.3f s, plain %.3f s, ratio %.2f" % (name, best["proved"], best["plain"], best["proved"] / best["plain"]))
+            for which, program in programs.items():
+                rows[which].append(timed(program))
+        for name in words:
+            assert len({told for kind in ("proved", "plain") for _, told in rows[name, kind]}) == 1, "the two differ"
+            proved, plain = (min(rows[name, kind])[0] for kind in ("proved", "plain"))
+            print("%s: proved %.3f s, plain %.3f s, ratio %.2f" % (name, proved, plain, proved / plain))
 
 
 if __name__ == "__main__":
