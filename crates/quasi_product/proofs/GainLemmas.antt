@@ -5,6 +5,8 @@ use Rattle.std.proofs.Math.Nat.{mod-add-mod}
 use Rattle.zeta_model.specs.declared.Letter.{Letter}
 use Rattle.zeta_model.specs.Product.{Alphabet, AlphabetLaws, rest, behind, prod, total}
 use Rattle.zeta_model.specs.Sums.{Sum, single, sum_of}
+use Rattle.zeta_model.specs.Modular.{Same}
+use Rattle.zeta_model.proofs.ModularLemmas.{same-add_left}
 use Rattle.zeta_model.proofs.Totals.{total-map}
 use Rattle.zeta_model.proofs.ProductTotals.{total_step}
 use Rattle.quasi_product.specs.Gains.{count_behind, Gains}
@@ -29,6 +31,10 @@ gains_then m a b c n k first second = record {
 
 pub gains_same : (m : ℕ) (a b n k : Sum) → ((t : Word) → n t ≡ k t) → Gains m a b n → Gains m a b k
 gains_same m a b n k same adds = record { each = λ t. adds.each t ∙ ap (λ x. (a t + x) % m) (same t) }
+
+-- numbers are gained modulo m
+pub gains_modulo : (m : ℕ) (a b n k : Sum) → ((t : Word) → Same m (n t) (k t)) → Gains m a b n → Gains m a b k
+gains_modulo m a b n k same adds = record { each = λ t. adds.each t ∙ same-add_left m (n t) (k t) (a t) (same t) }
 
 module _ (L : Alphabet) (laws : AlphabetLaws 24 L) (front u v : Word) (cu : L.covered u ≡ true) (cv : L.covered v ≡ true) (pu : 0 < length u) (pv : 0 < length v) (h : length u + length v ≤ 24) where
   groups : (t : Word) → count_behind L front u v t ≡ count_behind L (front ++ L.first u) (rest L u) v t + count_behind L (front ++ L.first v) u (rest L v) t + total (λ w. single (front ++ w) t) (behind (L.joined (L.first u) (L.first v)) (prod L (rest L u) (rest L v)))

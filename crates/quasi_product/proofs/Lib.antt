@@ -1,2 +1,4 @@
 pub mod GainLemmas
 pub mod LetterLemmas
+pub mod SumProductLemmas
+pub mod GreatestWeights

@@ -9,10 +9,12 @@ pub use fault::ProductFault;
 pub use laws::product_laws;
 pub use letters::{Letters, ShuffleLetters, StuffleLetters};
 pub use products::product;
+pub use sums::{covers_sum, product_sums};
 
 mod fault;
 mod laws;
 mod letters;
 mod products;
+mod sums;
 #[cfg(test)]
 mod tests;

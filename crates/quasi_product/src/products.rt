@@ -3,7 +3,7 @@ ghost use Rattle.std.specs.Prelude.{◌≡◌, ℕ, ◌+◌, ◌%◌, ◌<◌, �
 ghost use Rattle.quasi_product.specs.Gains.{count_behind, Gains};
 ghost use Rattle.word_sums.specs.Terms.{coefficient_of, AllIn};
 ghost use Rattle.zeta_model.specs.Product.{IsLetter, prod, rest};
-ghost use Rattle.zeta_model.specs.Sums.{sum_of};
+ghost use Rattle.zeta_model.specs.Sums.{scaled, sum_of};
 ghost use Rattle.zeta_model.specs.declared.Letter.{Letter};
 
 use crate::{Letters, ProductFault};
@@ -40,6 +40,52 @@ pub fn product<L: Letters, R: Ring>(
         Ok(()) => Ok(sum),
         Err(e) => Err(ProductFault::Memory(e)),
     }
+}
+
+/// Adds `c` times the product of `u` and `v`. After want of memory only a part of it is added.
+pub(crate) fn add_product<L: Letters, R: Ring>(
+    alloc: Global,
+    ring: &R,
+    c: R::Elem,
+    u: Word,
+    v: Word,
+    sum: &mut WordSum<R>,
+) -> Result<(), AllocError>
+    requires covers_u { L.alphabet.covered u ≡ true }
+    requires covers_v { L.alphabet.covered v ≡ true }
+    requires fits { length u + length v ≤ 24 }
+    requires has_c { R.has ring.now c ≡ true }
+    requires in_ring { AllIn (R.has ring.now) sum.old }
+    requires below { (t : List Letter) → coefficient_of (R.value ring.now) sum.old t < R.modulus ring.now }
+    ensures ok { OnOk result (Gains (R.modulus ring.now) (coefficient_of (R.value ring.now) sum.old)
+        (coefficient_of (R.value ring.now) sum.new) (scaled (R.value ring.now c) (sum_of (prod L.alphabet u v)))) }
+    ensures in_ring { AllIn (R.has ring.now) sum.new }
+{
+    let mut terms = WordSum::new(alloc);
+    add_products::<L, R>(ring, Word::empty(), u, v, &mut terms)?;
+    add_multiple(ring, c, &terms, sum)?;
+    Ok(())
+}
+
+/// Adds `c` times each of the terms in turn. After want of memory only some of them are added.
+fn add_multiple<R: Ring>(
+    ring: &R,
+    c: R::Elem,
+    terms: &WordSum<R>,
+    sum: &mut WordSum<R>,
+) -> Result<(), AllocError>
+    requires has_c { R.has ring.now c ≡ true }
+    requires terms_in_ring { AllIn (R.has ring.now) terms.now }
+    requires in_ring { AllIn (R.has ring.now) sum.old }
+    requires below { (t : List Letter) → coefficient_of (R.value ring.now) sum.old t < R.modulus ring.now }
+    ensures ok { OnOk result (Gains (R.modulus ring.now) (coefficient_of (R.value ring.now) sum.old)
+        (coefficient_of (R.value ring.now) sum.new) (scaled (R.value ring.now c) (coefficient_of (R.value ring.now) terms.now))) }
+    ensures in_ring { AllIn (R.has ring.now) sum.new }
+{
+    for (word, residue) in terms.iter() {
+        sum.add_term(ring, *word, ring.mul(c, *residue))?;
+    }
+    Ok(())
 }
 
 /// Adds each word of the product of `u` and `v`, with `front` before it. After want of memory only some of them are added.

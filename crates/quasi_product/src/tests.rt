@@ -1,9 +1,13 @@
-//! Worked products, calculated by hand: coefficients modulo 101, and refusals.
+//! Worked products, calculated by hand: of words modulo 101, of sums modulo 5, and refusals.
+ghost use Rattle.std.specs.Prelude.{IfOk};
+ghost use Rattle.word_sums.specs.Terms.{AllIn};
+
 use super::*;
-use residues::WordMod;
-use std::alloc::Global;
+use residues::{Ring, WordMod};
+use std::alloc::{AllocError, Global};
 use std::test::Fail;
 use word_letters::Word;
+use word_sums::WordSum;
 
 fn word(ks: &[u32]) -> Word {
     match Word::from_index(ks) {
@@ -84,6 +88,120 @@ fn words_are_stuffled(rt: HostRuntime) -> Result<(), Fail> {
 fn a_product_over_weight_24_is_refused(rt: HostRuntime) -> Result<(), Fail> {
     let ring = WordMod::new(101)?;
     let shuffle = product::<ShuffleLetters, WordMod>(rt.alloc(), &ring, word(&[12]), word(&[13]));
+    assert!(rt; matches!(&shuffle, Err(ProductFault::TooLong(25))));
+    Ok(())
+}
+
+/// The sum of these numbers times the words of these indices.
+fn sum_of(
+    alloc: Global,
+    ring: &WordMod,
+    terms: &[(u64, &[u32])],
+) -> Result<WordSum<WordMod>, AllocError>
+    ensures { IfOk result (λ sum. AllIn (⟦<WordMod as Ring>⟧.has ring.now) sum) }
+{
+    let mut sum = WordSum::<WordMod>::new(alloc);
+    for (number, index) in terms {
+        sum.add_term(ring, word(index), ring.of(*number as u128))?;
+    }
+    Ok(sum)
+}
+
+/// Whether the product modulo 5 of two sums has these words, and so many of each.
+fn multiplies_sums<L: Letters>(
+    alloc: Global,
+    a: &[(u64, &[u32])],
+    b: &[(u64, &[u32])],
+    wanted: &[(u64, &[u32])],
+) -> Result<bool, Fail> {
+    let ring = WordMod::new(5)?;
+    let a = sum_of(alloc, &ring, a)?;
+    let b = sum_of(alloc, &ring, b)?;
+    if !covers_sum::<L, WordMod>(&a) || !covers_sum::<L, WordMod>(&b) {
+        return Ok(false);
+    }
+    let sum = product_sums::<L, WordMod>(alloc, &ring, &a, &b)?;
+    for (number, index) in wanted {
+        if sum.coefficient(&ring, word(index)) != *number {
+            return Ok(false);
+        }
+    }
+    Ok(sum.len() == wanted.len())
+}
+
+#[test]
+fn sums_are_multiplied(rt: HostRuntime) -> Result<(), Fail> {
+    // (xy - xxy) xy, sums without words, and terms that go away
+    let shuffles: [(&[(u64, &[u32])], &[(u64, &[u32])], &[(u64, &[u32])]); 4] = [
+        (
+            &[(1, &[2]), (4, &[3])],
+            &[(1, &[2])],
+            &[
+                (4, &[3, 1]),
+                (2, &[2, 2]),
+                (4, &[4, 1]),
+                (2, &[3, 2]),
+                (4, &[2, 3]),
+            ],
+        ),
+        (&[], &[(1, &[2])], &[]),
+        (&[(1, &[2])], &[], &[]),
+        (
+            &[(1, &[1]), (4, &[])],
+            &[(1, &[1, 1]), (1, &[1])],
+            &[(3, &[1, 1, 1]), (1, &[1, 1]), (4, &[1])],
+        ),
+    ];
+    for (a, b, wanted) in shuffles {
+        assert!(rt;
+            multiplies_sums::<ShuffleLetters>(rt.alloc(), a, b, wanted)?,
+            "{a:?} {b:?}"
+        );
+    }
+    // xy (xy + 2 yy), and a sum with the word without letters
+    let stuffles: [(&[(u64, &[u32])], &[(u64, &[u32])], &[(u64, &[u32])]); 2] = [
+        (
+            &[(1, &[2])],
+            &[(1, &[2]), (2, &[1, 1])],
+            &[
+                (2, &[2, 2]),
+                (1, &[4]),
+                (2, &[2, 1, 1]),
+                (2, &[1, 2, 1]),
+                (2, &[1, 1, 2]),
+                (2, &[3, 1]),
+                (2, &[1, 3]),
+            ],
+        ),
+        (
+            &[(1, &[2])],
+            &[(1, &[3]), (4, &[5]), (4, &[])],
+            &[
+                (1, &[2, 3]),
+                (1, &[3, 2]),
+                (1, &[5]),
+                (4, &[2, 5]),
+                (4, &[5, 2]),
+                (4, &[7]),
+                (4, &[2]),
+            ],
+        ),
+    ];
+    for (a, b, wanted) in stuffles {
+        assert!(rt;
+            multiplies_sums::<StuffleLetters>(rt.alloc(), a, b, wanted)?,
+            "{a:?} {b:?}"
+        );
+    }
+    Ok(())
+}
+
+#[test]
+fn sums_over_weight_24_are_refused(rt: HostRuntime) -> Result<(), Fail> {
+    let ring = WordMod::new(5)?;
+    let a = sum_of(rt.alloc(), &ring, &[(1, &[2]), (1, &[12])])?;
+    let b = sum_of(rt.alloc(), &ring, &[(1, &[13])])?;
+    let shuffle = product_sums::<ShuffleLetters, WordMod>(rt.alloc(), &ring, &a, &b);
     assert!(rt; matches!(&shuffle, Err(ProductFault::TooLong(25))));
     Ok(())
 }
