@@ -1,0 +1,5 @@
+pub mod KnownSums
+pub mod Continuing
+pub mod LeadingY
+pub mod LeastWords
+pub mod OneWord
