@@ -9,16 +9,16 @@ use Rattle.zeta_model.specs.Modular.{Same}
 use Rattle.dual_reply.specs.Grammar.{Term, IsAccepted}
 use Rattle.dual_reply.specs.Reading.{signed_of, terms_of}
 use Rattle.dual_reply.specs.Sums.{folded_sum}
-use Rattle.dual_reply.specs.Listing.{IsListing, listing_of, entry_of, entry_at}
+use Rattle.dual_reply.specs.Listing.{Entry, listing_of, entry_of}
+use Rattle.word_sums.specs.Terms.{coefficient_of}
 use Rattle.dual_reply.specs.Reply.{text_of, refusal, reply_to, reply_of}
 use Rattle.dual_reply.specs.Canonical.{IsCanonical, IsExact, IsFolded, IsTold}
-use Rattle.dual_reply.specs.declared.listing.Entry.{Entry}
 use Rattle.dual_reply.specs.declared.reader.Signed.{Signed}
 use Rattle.dual_reply.proofs.AcceptedWords.{and-true}
 use Rattle.dual_reply.proofs.AcceptedLines.{IsOpen, terms_of-accepted, accepted-terms_of, terms_are_open}
 use Rattle.dual_reply.proofs.DualityLemmas.{is_admissible-representative_of, length-representative_of}
 use Rattle.dual_reply.proofs.FoldLemmas.{corrections, scaled, folded_sums_same, difference_corrected}
-use Rattle.dual_reply.proofs.ListingLaws.{number_of-bounds, with_terms_all, listing_of-IsListing, listing_unique}
+use Rattle.dual_reply.proofs.ListingLaws.{number_of-bounds, with_terms_all, listing_of-IsListing, listing_unique, listing_is}
 use Rattle.dual_reply.proofs.TextLaws.{IsPrinted, text_of-injective, text_of-refusal}
 
 abbrev AreOpen : List Signed → Type 0
@@ -54,8 +54,8 @@ module _ (m : ℕ) (low : 3 ≤ m) (high : m < 2 ^ 63) where
         printed_entries ss h.1,
       )
 
-  printed_sum : (e f : Entry) (s : ℕ) → IsPrinted e → IsPrinted f → s ≡ (f.residue + e.residue) % m → (s ≡ 0 → ⊥) → IsPrinted (record { residue = s; word = f.word })
-  printed_sum e f s p q r n = record { residue = omega (arith, mod_below (f.residue + e.residue) m (omega arith)); ends = q.ends; light = q.light }
+  printed_sum : (e f : Entry) (s : ℕ) → IsPrinted e → IsPrinted f → s ≡ (f.1 + e.1) % m → (s ≡ 0 → ⊥) → IsPrinted (f.0, s)
+  printed_sum e f s p q r n = record { residue = omega (arith, mod_below (f.1 + e.1) m (omega arith)); ends = q.ends; light = q.light }
 
   printed : (ss : List Signed) → AreOpen ss → AllByRecursion IsPrinted (listing_of m ss)
   unfolding listing_of
@@ -63,12 +63,6 @@ module _ (m : ℕ) (low : 3 ≤ m) (high : m < 2 ^ 63) where
 
   reply_of-accepted : (terms : List Term) (line : List ℕ) → IsAccepted terms line → reply_of m line ≡ text_of (listing_of m (map signed_of terms))
   reply_of-accepted terms line a = ap (reply_to m) (terms_of-accepted terms line a)
-
-  -- a listing is the one that is printed
-  listing_is : (ss : List Signed) (es : List Entry) → IsListing m ss es → es ≡ listing_of m ss
-  listing_is ss es i =
-      let j = listing_of-IsListing m low ss in
-      listing_unique m low es (listing_of m ss) i.increasing j.increasing i.residues j.residues (λ w. i.coefficients w ∙ sym (j.coefficients w))
 
   listings_same : (ss ts : List Signed) → ((w : List Letter) → Same m (folded_sum m ss w) (folded_sum m ts w)) → listing_of m ss ≡ listing_of m ts
   listings_same ss ts h =
@@ -78,7 +72,7 @@ module _ (m : ℕ) (low : 3 ≤ m) (high : m < 2 ^ 63) where
 
   folded_same : (ss ts : List Signed) → listing_of m ss ≡ listing_of m ts → (w : List Letter) → Same m (folded_sum m ss w) (folded_sum m ts w)
   folded_same ss ts e w =
-      sym ((listing_of-IsListing m low ss).coefficients w) ∙ ap (λ es. entry_at es w % m) e ∙ (listing_of-IsListing m low ts).coefficients w
+      sym ((listing_of-IsListing m low ss).coefficients w) ∙ ap (λ es. coefficient_of (λ a. a) es w % m) e ∙ (listing_of-IsListing m low ts).coefficients w
 
   canonical : IsCanonical m
   canonical l1 l2 t1 t2 a1 a2 =
@@ -114,8 +108,8 @@ module _ (m : ℕ) (low : 3 ≤ m) (high : m < 2 ^ 63) where
   told l1 l2 t1 t2 e1 e2 a1 a2 i1 i2 e =
       let ss = map signed_of t1 in
       let ts = map signed_of t2 in
-      let p = listing_is ss e1 i1 in
-      let q = listing_is ts e2 i2 in
+      let p = listing_is m low ss e1 i1 in
+      let q = listing_is m low ts e2 i2 in
       p ∙ text_of-injective (listing_of m ss) (listing_of m ts) (printed ss (terms_are_open t1 l1 a1)) (printed ts (terms_are_open t2 l2 a2)) (ap text_of (sym p) ∙ e ∙ ap text_of q) ∙ sym q
 
 pub reply_canonical : (m : ℕ) → 3 ≤ m → m < 2 ^ 63 → IsCanonical m

@@ -3,12 +3,12 @@ use Rattle.std.proofs.Common.{◌≡◌, ℕ, ◌+◌, ◌-◌, ◌*◌, ◌%◌
 use Rattle.zeta_model.specs.Duality.{dual_of, representative_of}
 use Rattle.zeta_model.specs.Modular.{Same}
 use Rattle.zeta_model.proofs.ModularLemmas.{same-add, same-add_right, same-mul_left, same-multiple}
-use Rattle.zeta_model.specs.Sums.{difference}
-use Rattle.zeta_model.specs.Sums.{single}
+use Rattle.zeta_model.specs.Sums.{single, difference}
+use Rattle.zeta_model.proofs.SumLemmas.{continued-append}
 use Rattle.dual_reply.specs.Sums.{number_of, word_sum, folded_sum, dual_sum}
 use Rattle.dual_reply.specs.declared.reader.Signed.{Signed}
 use Rattle.zeta_model.proofs.DualityLaws.{representative_of-dual_of}
-use Rattle.dual_reply.proofs.DualityLemmas.{representative_cases}
+use Rattle.duality_map.proofs.DualLetters.{representative_cases}
 use Rattle.dual_reply.proofs.SumLemmas.{W, single-same, single-other, word_cases, folded_at, by_kind, folded_at-none, folded_at-self, folded_at-pair, single-representative_of}
 
 times_one_more : (k x : ℕ) → 1 * x + k * x ≡ (k + 1) * x
@@ -102,10 +102,6 @@ dual_sum-scaled m k (c ∷ cs) w =
     let e : k * c.0 * x + k * dual_sum m cs w ≡ k * (c.0 * x + dual_sum m cs w) = omega arith in
     (λ i. k * c.0 * x + dual_sum-scaled m k cs w i) ∙ e
 
-dual_sum-append : (m : ℕ) (cs ds : List (ℕ × W)) (w : W) → dual_sum m (cs ++ ds) w ≡ dual_sum m cs w + dual_sum m ds w
-dual_sum-append m [] ds w = omega arith
-dual_sum-append m (c ∷ cs) ds w = omega (arith, dual_sum-append m cs ds w)
-
 term_corrected : (m n : ℕ) (u w : W) → 0 < m → Same m (n * single u w) (n * single (representative_of u) w + n * (1 - single (representative_of u) u) * (single u w + (m - 1) * single (dual_of u) w))
 term_corrected m n u w h =
     let x = single u w in
@@ -152,4 +148,4 @@ difference_corrected m ss ts h same w =
     same-add m s (g + d) ((m - 1) * t) ((m - 1) * (g + e)) p q
     ∙ ap (λ n. n % m) z
     ∙ same-multiple m (d + (m - 1) * e) g
-    ∙ ap (λ n. n % m) (sym (dual_sum-append m (corrections m ss) (scaled (m - 1) (corrections m ts)) w ∙ (λ i. d + dual_sum-scaled m (m - 1) (corrections m ts) w i)))
+    ∙ ap (λ n. n % m) (sym (continued-append (λ u. difference m (single u) (single (dual_of u))) (corrections m ss) (scaled (m - 1) (corrections m ts)) w ∙ (λ i. d + dual_sum-scaled m (m - 1) (corrections m ts) w i)))

@@ -5,7 +5,8 @@ pub mod CompleteReading
 pub mod SoundReading
 pub mod ListingLemmas
 pub mod ListingLaws
-pub mod PlaceLemmas
+pub mod ListingOrder
+pub mod FoldedTerms
 pub mod TextLemmas
 pub mod FoldLemmas
 pub mod TextLaws

@@ -5,7 +5,8 @@ use Rattle.zeta_model.specs.Duality.{dual_of, representative_of}
 use Rattle.zeta_model.specs.Sums.{same_word, single}
 use Rattle.zeta_model.proofs.WordOrder.{same_word-one, same_word-itself}
 use Rattle.zeta_model.proofs.DualityLaws.{dual_of-dual_of, representative_of-dual_of}
-use Rattle.dual_reply.proofs.DualityLemmas.{representative_cases, representative_of-representative_of}
+use Rattle.duality_map.proofs.DualLetters.{representative_cases}
+use Rattle.dual_reply.proofs.DualityLemmas.{representative_of-representative_of}
 
 abbrev pub W : Type 0
 W = List Letter
@@ -27,10 +28,6 @@ single-same u w e = ap (λ v. single u v) (sym e) ∙ ap (λ b. cond b 1 0) (sam
 
 pub single-other : (u w : W) → (u ≡ w → ⊥) → single u w ≡ 0
 single-other u w n = one_by_test u w (same_word w u) refl n
-
--- 1 where the two words are one, and 0 elsewhere, is 0 or 1
-pub single-cases : (u w : W) → (single u w ≡ 1) ⊎ (single u w ≡ 0)
-single-cases u w = ⊎_elim (λ e. inl (single-same u w e)) (λ n. inr (single-other u w n)) (word_cases u w)
 
 -- what folding leaves at a word r of the sum s: s at r and at its dual, each once, and nothing where r is no representative
 abbrev pub folded_at : (W → ℕ) → W → ℕ

@@ -9,8 +9,8 @@ use Rattle.zeta_model.specs.declared.Letter.TheVariants.{X, Y}
 use Rattle.zeta_model.specs.Words.{ends_with_y, has_index}
 use Rattle.zeta_model.specs.Indices.{index_from, index_of, word_text}
 use Rattle.word_letters.proofs.IndexLemmas.{index_of-injective}
+use Rattle.dual_reply.specs.Listing.{Entry}
 use Rattle.dual_reply.specs.Reply.{entry_text, text_of, refusal}
-use Rattle.dual_reply.specs.declared.listing.Entry.{Entry}
 use Rattle.dual_reply.proofs.TextLemmas.{behind_text, join-cons}
 
 -- the byte stands nowhere in the text
@@ -104,9 +104,9 @@ parts_small k (Y ∷ w) h l = (omega arith, parts_small 1 w (omega arith) (omega
 
 -- an entry that is printed
 pub record IsPrinted (e : Entry) : Type 0 where
-  pub residue : e.residue < 2 ^ 63
-  pub ends : ends_with_y e.word ≡ true
-  pub light : length e.word ≤ 24
+  pub residue : e.1 < 2 ^ 63
+  pub ends : ends_with_y e.0 ≡ true
+  pub light : length e.0 ≤ 24
 
 no_digit : (c : ℕ) → (c < 48) → IsDigit c → ⊥
 no_digit c h d = absurd (omega arith)
@@ -145,8 +145,8 @@ word_free w l =
 entry_free : (e : Entry) → IsPrinted e → IsFree 43 (entry_text e)
 entry_free e p =
     let r = p.residue in
-    let d = digits_free 43 (no_digit 43 (omega arith)) (decimal e.residue) (decimal_digits e.residue (omega arith)) in
-    all_append (λ b. b ≡ 43 → ⊥) (decimal e.residue) (42 ∷ word_text e.word) d ((λ h. cc), word_free e.word p.light)
+    let d = digits_free 43 (no_digit 43 (omega arith)) (decimal e.1) (decimal_digits e.1 (omega arith)) in
+    all_append (λ b. b ≡ 43 → ⊥) (decimal e.1) (42 ∷ word_text e.0) d ((λ h. cc), word_free e.0 p.light)
 
 entries_free : (es : List Entry) → AllByRecursion IsPrinted es → AllByRecursion (IsFree 43) (map entry_text es)
 entries_free [] h = tt
@@ -156,12 +156,12 @@ entry_same : (e f : Entry) → IsPrinted e → IsPrinted f → entry_text e ≡ 
 entry_same e f p q h =
     let r = p.residue in
     let s = q.residue in
-    let d = digits_free 42 (no_digit 42 (omega arith)) (decimal e.residue) (decimal_digits e.residue (omega arith)) in
-    let g = digits_free 42 (no_digit 42 (omega arith)) (decimal f.residue) (decimal_digits f.residue (omega arith)) in
-    let c = cut 42 (decimal e.residue) (decimal f.residue) (word_text e.word) (word_text f.word) d g h in
-    let a = decimal_injective e.residue f.residue (omega arith) (omega arith) c.0 in
-    let b = word_text_same e.word f.word p.ends q.ends p.light q.light c.1 in
-    λ i. record { residue = a i; word = b i }
+    let d = digits_free 42 (no_digit 42 (omega arith)) (decimal e.1) (decimal_digits e.1 (omega arith)) in
+    let g = digits_free 42 (no_digit 42 (omega arith)) (decimal f.1) (decimal_digits f.1 (omega arith)) in
+    let c = cut 42 (decimal e.1) (decimal f.1) (word_text e.0) (word_text f.0) d g h in
+    let a = decimal_injective e.1 f.1 (omega arith) (omega arith) c.0 in
+    let b = word_text_same e.0 f.0 p.ends q.ends p.light q.light c.1 in
+    λ i. (b i, a i)
 
 entries_same : (es fs : List Entry) → AllByRecursion IsPrinted es → AllByRecursion IsPrinted fs → map entry_text es ≡ map entry_text fs → es ≡ fs
 entries_same [] [] h k e = refl
@@ -175,12 +175,12 @@ entries_same (e ∷ es) (f ∷ fs) h k q =
     λ i. u i ∷ v i
 
 -- a star stands in the text of some entries
-starred : (e : Entry) (es : List Entry) → text_of (e ∷ es) ≡ decimal e.residue ++ 42 ∷ (word_text e.word ++ behind_text 43 (map entry_text es))
-starred e es = join-cons 43 (entry_text e) (map entry_text es) ∙ append_assoc (decimal e.residue) (42 ∷ word_text e.word) (behind_text 43 (map entry_text es))
+starred : (e : Entry) (es : List Entry) → text_of (e ∷ es) ≡ decimal e.1 ++ 42 ∷ (word_text e.0 ++ behind_text 43 (map entry_text es))
+starred e es = join-cons 43 (entry_text e) (map entry_text es) ∙ append_assoc (decimal e.1) (42 ∷ word_text e.0) (behind_text 43 (map entry_text es))
 
 -- a text without a star is that of no entry
 no_star : (xs : List ℕ) (e : Entry) (es : List Entry) → IsFree 42 xs → xs ≡ text_of (e ∷ es) → ⊥
-no_star xs e es h q = never 42 xs (decimal e.residue) (word_text e.word ++ behind_text 43 (map entry_text es)) h (q ∙ starred e es)
+no_star xs e es h q = never 42 xs (decimal e.1) (word_text e.0 ++ behind_text 43 (map entry_text es)) h (q ∙ starred e es)
 
 zero_free : IsFree 42 (codes "0")
 zero_free = ((λ h. absurd (omega arith)), tt)

@@ -4,9 +4,8 @@ use Rattle.dual_reply.specs.Grammar.{Term, IsAccepted}
 use Rattle.dual_reply.specs.Reading.{signed_of}
 use Rattle.zeta_model.specs.Sums.{difference}
 use Rattle.dual_reply.specs.Sums.{word_sum, IsDualSum}
-use Rattle.dual_reply.specs.Listing.{IsListing}
+use Rattle.dual_reply.specs.Listing.{Entry, IsListing}
 use Rattle.dual_reply.specs.Reply.{text_of, refusal, reply_of}
-use Rattle.dual_reply.specs.declared.listing.Entry.{Entry}
 
 -- two accepted lines get the same reply exactly where their sums differ by duality
 abbrev pub IsCanonical : ℕ → Type 0

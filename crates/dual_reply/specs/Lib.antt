@@ -2,6 +2,5 @@ pub mod Grammar
 pub mod Reading
 pub mod Sums
 pub mod Listing
-pub mod Places
 pub mod Reply
 pub mod Canonical

@@ -4,13 +4,12 @@ use Rattle.std.specs.List.{join_with_byte}
 use Rattle.std.specs.Fmt.{decimal}
 use Rattle.zeta_model.specs.Indices.{word_text}
 use Rattle.dual_reply.specs.Reading.{terms_of}
-use Rattle.dual_reply.specs.Listing.{listing_of}
+use Rattle.dual_reply.specs.Listing.{Entry, listing_of}
 use Rattle.dual_reply.specs.declared.reader.Signed.{Signed}
-use Rattle.dual_reply.specs.declared.listing.Entry.{Entry}
 
 -- `100*z(3,1)`
 abbrev pub entry_text : Entry → List ℕ
-entry_text e = decimal e.residue ++ (codes "*" ++ word_text e.word)
+entry_text e = decimal e.1 ++ (codes "*" ++ word_text e.0)
 
 -- the text, behind a byte where it is not the first
 abbrev pub behind_byte : ℕ → Bool → List ℕ → List ℕ

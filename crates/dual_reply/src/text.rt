@@ -5,7 +5,6 @@ ghost use Rattle.std.specs.Fmt.{decimal};
 ghost use Rattle.zeta_model.specs.Indices.{index_of, word_text};
 ghost use Rattle.dual_reply.specs.Reply.{behind_byte, entry_text, text_of};
 
-use crate::listing::Entry;
 use itoa::Buffer;
 use std::alloc::AllocError;
 use word_letters::{Letter, Word};
@@ -47,22 +46,22 @@ fn push_index(out: &mut Vec<u8>, word: &Word) -> Result<(), AllocError>
     Ok(())
 }
 
-/// Adds an entry, as `100*z(3,1)`, behind a `+` where it is not the first.
-fn push_entry(out: &mut Vec<u8>, first: bool, entry: &Entry) -> Result<(), AllocError>
+/// Adds a word with its residue, as `100*z(3,1)`, behind a `+` where it is not the first.
+fn push_entry(out: &mut Vec<u8>, first: bool, entry: &(Word, u64)) -> Result<(), AllocError>
     ensures { OnOk result (out.new.items ≡ out.old.items ++ behind_byte 43 first (entry_text entry.now)) }
 {
     if !first {
         out.push(b'+')?;
     }
-    push_number(out, entry.residue)?;
+    push_number(out, entry.1)?;
     out.extend_from_slice(b"*z(")?;
-    push_index(out, &entry.word)?;
+    push_index(out, &entry.0)?;
     out.push(b')')?;
     Ok(())
 }
 
 /// Adds the text of a sum: its entries joined by `+`, and `0` where there is none.
-pub fn push_text(out: &mut Vec<u8>, entries: &[Entry]) -> Result<(), AllocError>
+pub fn push_text(out: &mut Vec<u8>, entries: &[(Word, u64)]) -> Result<(), AllocError>
     ensures { OnOk result (out.new.items ≡ out.old.items ++ text_of entries.now) }
 {
     if entries.is_empty() {

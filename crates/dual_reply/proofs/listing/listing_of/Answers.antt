@@ -1,12 +1,19 @@
-use Rattle.std.proofs.Common.{◌≡◌, [], List, length, drop, ap, sym, ◌∙◌, drop_of_length-le, ℕ, ◌≤◌}
-use Rattle.dual_reply.specs.Listing.{with_terms, listing_of}
-use Rattle.dual_reply.specs.declared.listing.Entry.{Entry}
-use Rattle.dual_reply.specs.declared.reader.Signed.{Signed}
+use Rattle.std.proofs.Common.{◌≢◌, All, subst}
+use Rattle.std.specs.Prelude.{Result, Ok, Err, IfOk}
+use Rattle.std.specs.Map.{values_of}
+use Rattle.dual_reply.specs.Listing.{IsListing}
+use Rattle.dual_reply.proofs.FoldedTerms.{ordered-IsListing}
 use Rattle.dual_reply.proofs.listing.listing_of.Goals as goal
 
-whole : (m : ℕ) (es : List Entry) (ts : List Signed) (i : ℕ) → length ts ≤ i → with_terms m es (drop i ts) ≡ with_terms m [] ts → es ≡ listing_of m ts
-unfolding listing_of
-whole m es ts i l h = sym (ap (with_terms m es) (drop_of_length-le ts l)) ∙ h
+joined : {X E : Type 0} (P Q R : X → Type 0) → ((x : X) → P x → Q x → R x) → (r : Result X E) → IfOk r P → IfOk r Q → IfOk r R
+joined P Q R f (Ok x) p q = f x p q
+joined P Q R f (Err e) p q = tt
 
 pub returns : goal.returns
-returns c = whole c.args.modulus c.loop-term.entries.items c.args.terms.now c.loop-term.term-index c.loop-term-test.false c.loop-term.invariant.rest
+returns c =
+    let nonzero = subst (λ es. All (λ a. a ≢ 0) (values_of es)) c.sum.view_is c.sum.invariant.nonzero in
+    joined _ _ _
+    (λ entries increasing moved.
+    subst (λ m. IsListing m c.args.terms.now entries.items) c.ring_of-ring.ensures
+    (ordered-IsListing c.ring_of-ring.result.modulus c.args.terms.now c.in_ok-sum.sum entries.items moved increasing nonzero c.in_ok-sum.ensures.in_ring c.in_ok-sum.ensures.value))
+    c.ordered.result c.ordered.ensures.increasing c.ordered.ensures.terms

@@ -1,7 +1,7 @@
 use Rattle.std.proofs.Common.{◌≡◌, ℕ, ◌+◌, ◌<◌, ◌++◌, Bool, false, List, length, map, drop, get_or, suc, ap, sym, ◌∙◌, add-one}
 use Rattle.std.proofs.Math.Seq.{drop-cons}
+use Rattle.dual_reply.specs.Listing.{Entry}
 use Rattle.dual_reply.specs.Reply.{entry_text, behind_byte}
-use Rattle.dual_reply.specs.declared.listing.Entry.{Entry}
 use Rattle.dual_reply.proofs.TextLemmas.{rest_text, rest_text-step}
 use Rattle.dual_reply.proofs.text.push_text.Goals as goal
 

@@ -1,6 +1,0 @@
-use Rattle.std.proofs.Common.{◌≡◌, length, take}
-use Rattle.zeta_model.specs.Duality.{dual_of}
-use Rattle.dual_reply.proofs.duality.dual.Given as goal
-
-abbrev pub invariant-loop-i : goal.invariant-loop-i
-invariant-loop-i l = record { shape : l.dual ≡ dual_of (take l.i l.word); weight : length l.dual ≡ l.i }
