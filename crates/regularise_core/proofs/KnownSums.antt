@@ -104,19 +104,24 @@ module _ (m : ℕ) (pos : 0 < m) where
           let from_zero : q + q * (m - 1) ≡ 0 + q + q * (m - 1) = omega arith in
           ap (λ n. n % m) (apart (λ w. single w t)) ∙ same-add_right m (given ps t) q (q * (m - 1)) (same t) ∙ ap (λ n. n % m) from_zero ∙ same-opposite m 0 q pos
 
+  -- so a map that is continued has the same sum for both
+  pub continued_same : (ps qs : List (ℕ × Word)) → ((t : Word) → Same m (continued single ps t) (continued single qs t)) → (f : Word → Sum) (t : Word) → Same m (continued f ps t) (continued f qs t)
+  continued_same ps qs same f t =
+      ap (λ n. n % m) (weighted-continued f ps t)
+      ∙ weighted_known ps qs (λ r. ap (λ n. n % m) (sym (weighted-continued single ps r)) ∙ same r ∙ ap (λ n. n % m) (weighted-continued single qs r)) (λ w. f w t)
+      ∙ ap (λ n. n % m) (sym (weighted-continued f qs t))
+
 -- each word of a list once
 abbrev ones : List Word → List (ℕ × Word)
 ones ws = map (λ w. (1, w)) ws
 
-weighted-ones : (g : Word → ℕ) (ws : List Word) → weighted g (ones ws) ≡ total g ws
-weighted-ones g [] = refl
-weighted-ones g (w ∷ ws) = omega (arith, weighted-ones g ws)
+continued-ones : (f : Word → Sum) (ws : List Word) (t : Word) → continued f (ones ws) t ≡ total (λ w. f w t) ws
+continued-ones f [] t = refl
+continued-ones f (w ∷ ws) t = omega (arith, continued-ones f ws t)
 
 -- terms that give each word the number of its places in a list, modulo m, are as good as the list for every map of words
 pub continued_known : {E : Type 0} (m : ℕ) (value : E → ℕ) (terms : List (Word × E)) (ws : List Word) → 0 < m → ((t : Word) → Same m (coefficient_of value terms t) (sum_of ws t))
     → (f : Word → Sum) (t : Word) → Same m (continued f (map (λ term. (value term.1, term.0)) terms) t) (total (λ w. f w t) ws)
 continued_known m value terms ws pos same f t =
-    let numbers : List (ℕ × Word) = map (λ term. (value term.1, term.0)) terms in
-    ap (λ n. n % m) (weighted-continued f numbers t)
-    ∙ weighted_known m pos numbers (ones ws) (λ r. ap (λ n. n % m) (sym (weighted-continued single numbers r)) ∙ same r ∙ ap (λ n. n % m) (sym (weighted-ones (λ w. single w r) ws))) (λ w. f w t)
-    ∙ ap (λ n. n % m) (weighted-ones (λ w. f w t) ws)
+    continued_same m pos (map (λ term. (value term.1, term.0)) terms) (ones ws) (λ r. same r ∙ ap (λ n. n % m) (sym (continued-ones single ws r))) f t
+    ∙ ap (λ n. n % m) (continued-ones f ws t)

@@ -3,3 +3,4 @@ pub mod Continuing
 pub mod LeadingY
 pub mod LeastWords
 pub mod OneWord
+pub mod RegularSums

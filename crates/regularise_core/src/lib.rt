@@ -6,9 +6,13 @@
 #![tactic(auto)]
 
 pub use fault::RegFault;
+pub use laws::reg_laws;
 pub use regularise::reg;
 
 mod fault;
+mod laws;
 mod letters;
 mod regularise;
 mod shuffles;
+#[cfg(test)]
+mod tests;
