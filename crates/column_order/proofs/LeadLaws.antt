@@ -72,7 +72,7 @@ depth_of-put w (u ∷ us) = elim (is_lt (word_cmp u w)) as (λ b. depth_of (join
   | false ↦ omega (arith, depth_of-append u (joined (put w us)), depth_of-append u (joined us), depth_of-put w us)
 ]
 
-nat_cmp-add : (k a b : ℕ) → nat_cmp (k + a) (k + b) ≡ nat_cmp a b
+pub nat_cmp-add : (k a b : ℕ) → nat_cmp (k + a) (k + b) ≡ nat_cmp a b
 nat_cmp-add k a b = sym (nat_cmp_is (k + a) (k + b) (nat_cmp a b) (go (nat_cmp a b) (ranks a b)))
   where
     go : (r : Ordering) → MatchOrdering r (a < b) (a ≡ b) (b < a) → MatchOrdering r (k + a < k + b) (k + a ≡ k + b) (k + b < k + a)

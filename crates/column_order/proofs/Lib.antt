@@ -1,2 +1,4 @@
 pub mod PutOrder
 pub mod LeadLaws
+pub mod Comparing
+pub mod Ranking

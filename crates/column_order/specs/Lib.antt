@@ -1,1 +1,3 @@
 pub mod LeadOrder
+pub mod Ranks
+pub mod Steps
