@@ -2,3 +2,8 @@ pub mod PutOrder
 pub mod LeadLaws
 pub mod Comparing
 pub mod Ranking
+pub mod Distinct
+pub mod BinomialSums
+pub mod ColumnWords
+pub mod ColumnLists
+pub mod Places

@@ -1,3 +1,5 @@
 pub mod LeadOrder
 pub mod Ranks
+pub mod Columns
 pub mod Steps
+pub mod ColumnLaws

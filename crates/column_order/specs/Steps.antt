@@ -1,13 +1,18 @@
 -- What single steps of the code answer. No public clause cites these, so a reader need not believe them.
-use Rattle.std.specs.Prelude.{◌≡◌, ℕ, List, length}
+use Rattle.std.specs.Prelude.{◌≡◌, ℕ, zero, suc, List, [], ◌∷◌, ◌++◌, length, map}
+use Rattle.std.specs.List.{All}
 use Rattle.std.specs.declared.cmp.Ordering.{Ordering}
 use Rattle.std.specs.Ordering.{nat_cmp, ordering_then}
 use Rattle.std.specs.Cmp.Lexicographic.{slice_cmp}
 use Rattle.zeta_model.specs.declared.Letter.{Letter}
+use Rattle.zeta_model.specs.declared.Letter.TheVariants.{X, Y}
 use Rattle.zeta_model.specs.Words.{word_cmp, depth_of}
 use Rattle.lyndon_words.specs.Lyndon.{joined}
+use Rattle.lyndon_words.specs.Monomials.{IsMonomial}
 use Rattle.column_order.specs.declared.lead_order.Standing.{Standing}
+use Rattle.column_order.specs.declared.column.Column.{Column}
 use Rattle.column_order.specs.LeadOrder.{rank_sum}
+use Rattle.column_order.specs.Columns.{IsColumnList}
 
 -- the numbers are the sum of ranks and the depth of p
 pub record IsStanding (f : List Letter → ℕ) (p : List (List Letter)) (s : Standing) : Type 0 where
@@ -21,3 +26,30 @@ standing_cmp p s q t =
     (ordering_then (nat_cmp t.ranks s.ranks)
     (ordering_then (nat_cmp t.depth s.depth)
     (slice_cmp word_cmp q p)))
+
+abbrev pub column_cmp : Column → Column → Ordering
+column_cmp a b = standing_cmp a.monomial a.standing b.monomial b.standing
+
+-- a monomial with its own standing
+pub record IsStood (f : List Letter → ℕ) (c : Column) : Type 0 where
+  pub monomial : IsMonomial c.monomial
+  pub standing : IsStanding f c.monomial c.standing
+
+abbrev pub monomials_of : List Column → List (List (List Letter))
+monomials_of cs = map (λ c. c.monomial) cs
+
+-- the words that are f, then n letters, at most d of them y, then y
+abbrev pub words_behind : List Letter → ℕ → ℕ → List (List Letter)
+words_behind f zero d = (f ++ Y ∷ []) ∷ []
+words_behind f (suc n) zero = words_behind (f ++ X ∷ []) n zero
+words_behind f (suc n) (suc d) = words_behind (f ++ X ∷ []) n (suc d) ++ words_behind (f ++ Y ∷ []) n d
+
+-- the columns are the monomials of the words, one for each
+pub record AreOf (f : List Letter → ℕ) (ws : List (List Letter)) (cs : List Column) : Type 0 where
+  pub words : map joined (monomials_of cs) ≡ ws
+  pub stood : All (IsStood f) cs
+
+-- the columns of weight w and depth at most d, in lead order
+pub record AreColumns (f : List Letter → ℕ) (w d : ℕ) (cs : List Column) : Type 0 where
+  pub list : IsColumnList f w d (monomials_of cs)
+  pub stood : All (IsStood f) cs

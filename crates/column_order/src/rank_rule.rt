@@ -1,5 +1,6 @@
 //! A function that ranks words, beside the mode whose ranks it answers.
 ghost use Rattle.std.specs.Prelude.{◌≡◌};
+ghost use Rattle.lyndon_words.specs.Monomials.{IsMonomial};
 ghost use Rattle.column_order.specs.LeadOrder.{rank_sum};
 ghost use Rattle.column_order.specs.Ranks.{AnswersRank, rank_of};
 ghost use Rattle.column_order.specs.Steps.{IsStanding};
@@ -37,7 +38,8 @@ impl<F: Fn(Word) -> u32> RankRule<F> {
     /// The sum of ranks and the depth of a monomial.
     pub(crate) fn standing(&self, p: &Monomial) -> Standing
         requires answers { AnswersRank (λ w. F.pre self.now.function w) (λ w r. F.post self.now.function w r) self.now.mode }
-        ensures { IsStanding (rank_of self.now.mode) p.now result }
+        ensures standing { IsStanding (rank_of self.now.mode) p.now result }
+        ensures monomial { IsMonomial p.now }
     {
         Standing {
             ranks: self.rank_sum(p),
@@ -48,7 +50,8 @@ impl<F: Fn(Word) -> u32> RankRule<F> {
     /// The sum of the ranks of the factors.
     fn rank_sum(&self, p: &Monomial) -> u32
         requires answers { AnswersRank (λ w. F.pre self.now.function w) (λ w r. F.post self.now.function w r) self.now.mode }
-        ensures { result ≡ rank_sum (rank_of self.now.mode) p.now }
+        ensures sum { result ≡ rank_sum (rank_of self.now.mode) p.now }
+        ensures monomial { IsMonomial p.now }
     {
         let mut sum = 0;
         for i in 0..p.len() {
