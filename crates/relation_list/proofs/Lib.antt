@@ -1,0 +1,6 @@
+pub mod FilterLemmas
+pub mod NameBounds
+pub mod WordListLemmas
+pub mod ListingLemmas
+pub mod Members
+pub mod WholeListing

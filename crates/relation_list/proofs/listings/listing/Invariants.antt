@@ -1,0 +1,14 @@
+use Rattle.std.proofs.Common.{◌≡◌, ◌-◌, ◌≤◌, ◌++◌, take, map}
+use Rattle.std.specs.List.{flat_map, range_with_len}
+use Rattle.relation_list.specs.declared.names.RelName.TheVariants.{Plain}
+use Rattle.relation_list.specs.Steps.{directs_within, prods_at}
+use Rattle.relation_list.proofs.listings.listing.Given as goal
+
+abbrev pub invariant-loop-r : goal.invariant-loop-r
+invariant-loop-r l = l.names.items ≡ map (λ r. Plain r) (take l.r-index l.r-items)
+
+abbrev pub invariant-loop-k : goal.invariant-loop-k
+invariant-loop-k l = record {
+  made : l.names.items ≡ map (λ r. Plain r) (directs_within l.w l.d) ++ flat_map (prods_at l.w l.d) (range_with_len 3 (l.k - 3));
+  within : l.k - 3 ≤ l.w - 4;
+}

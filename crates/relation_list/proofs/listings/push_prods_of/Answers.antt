@@ -1,0 +1,11 @@
+use Rattle.std.proofs.Common.{◌-◌, ◌++◌, map, ap, ◌∙◌, arith}
+use Rattle.std.proofs.lemmas.List.{take_all}
+use Rattle.relation_list.specs.declared.names.RelName.TheVariants.{Prod}
+use Rattle.relation_list.specs.Steps.{words_within, prods_of}
+use Rattle.relation_list.proofs.listings.push_prods_of.Goals as goal
+
+pub returns : goal.returns
+unfolding prods_of
+returns c =
+    c.loop-u.invariant
+    ∙ ap (λ us. c.args.names.now.items ++ map (λ u. Prod c.args.r.now u) us) (take_all c.loop-u.u-index c.deref-u-items.result.now (omega arith) ∙ c.deref-u-items.ensures.value ∙ c.in_ok-words.ensures ∙ ap (λ n. words_within c.args.k (c.args.d - n)) c.direct_depth.ensures)

@@ -1,0 +1,5 @@
+pub mod WordLists
+pub mod Names
+pub mod Listings
+pub mod Texts
+pub mod Steps
