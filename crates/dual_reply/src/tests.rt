@@ -13,7 +13,7 @@ fn gets(alloc: Global, modulus: u64, line: &[u8], wanted: &[u8]) -> Result<bool,
 #[test]
 fn sums_are_folded_by_duality(rt: HostRuntime) -> Result<(), AllocError> {
     // modulus, line, reply
-    let table: [(u64, &str, &str); 12] = [
+    let table: [(u64, &str, &str); 13] = [
         (101, "z(2,1)-z(3)", "0"),
         (101, "z(2,1)+z(3)", "2*z(3)"),
         (101, "z(3,1)+z(2)", "1*z(2)+1*z(3,1)"),
@@ -28,6 +28,11 @@ fn sums_are_folded_by_duality(rt: HostRuntime) -> Result<(), AllocError> {
         ),
         (101, "z(23,1)", "1*z(23,1)"),
         (3, "z(5)+z(5)+z(5)+z(2)", "1*z(2)"),
+        (
+            101,
+            "z(24)+z(23)+z(22)+z(21)+z(20)+z(19)+z(18)+z(17)+z(16)+z(15)+z(14)+z(13)+z(12)+z(11)+z(10)+z(9)+z(8)+z(7)+z(6)+z(5)+z(4)+z(3)+z(2)",
+            "1*z(2)+1*z(3)+1*z(4)+1*z(5)+1*z(6)+1*z(7)+1*z(8)+1*z(9)+1*z(10)+1*z(11)+1*z(12)+1*z(13)+1*z(14)+1*z(15)+1*z(16)+1*z(17)+1*z(18)+1*z(19)+1*z(20)+1*z(21)+1*z(22)+1*z(23)+1*z(24)",
+        ),
         (4, "z(2,1)+z(3)+z(3)+z(2,1)", "0"),
         (
             9223372036854775807,
