@@ -59,8 +59,8 @@ held (suc n) (suc d) f (Y ∷ t) e h =
 one_letter : (f w : List Letter) (n k d e : ℕ) → Between (f ++ X ∷ []) w n d → Between (f ++ Y ∷ []) w k e → ⊥
 one_letter f w n k d e b c =
     let same : X ∷ (b.rest ++ Y ∷ []) ≡ Y ∷ (c.rest ++ Y ∷ []) =
-        append_cancel_left f (X ∷ (b.rest ++ Y ∷ [])) (Y ∷ (c.rest ++ Y ∷ []))
-        (sym (append_assoc f (X ∷ []) (b.rest ++ Y ∷ [])) ∙ sym b.is ∙ c.is ∙ append_assoc f (Y ∷ []) (c.rest ++ Y ∷ [])) in
+    append_cancel_left f (X ∷ (b.rest ++ Y ∷ [])) (Y ∷ (c.rest ++ Y ∷ []))
+    (sym (append_assoc f (X ∷ []) (b.rest ++ Y ∷ [])) ∙ sym b.is ∙ c.is ∙ append_assoc f (Y ∷ []) (c.rest ++ Y ∷ [])) in
     cc
 
 pub AllDistinct-words_behind : (n d : ℕ) (f : List Letter) → AllDistinct (words_behind f n d)

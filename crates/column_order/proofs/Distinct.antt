@@ -75,20 +75,19 @@ AllDistinct-from_same [] ys d h f g = tt
 AllDistinct-from_same (x ∷ xs) ys d h f g =
     let fresh : ¬ (Contains xs x) = λ c. absurd (omega (arith, length-le_from_within ys xs d (λ z p. elim (Contains_cases x xs z (g z p)) [ inl e ↦ subst (Contains xs) e c | inr q ↦ q ]))) in
     let s : Standing_at ys x = standing_at ys x (f x (Contains-head x xs)) in
-    let there : AllDistinct (s.front ++ x ∷ s.back) = subst AllDistinct s.is d in
-    (
+    let there : AllDistinct (s.front ++ x ∷ s.back) = subst AllDistinct s.is d in (
       fresh,
       AllDistinct-from_same xs (s.front ++ s.back) (AllDistinct-without s.front s.back x there)
-      (omega (arith, ap length s.is, length-append s.front (x ∷ s.back), length-append s.front s.back))
-      (λ z c. without s.front s.back x z (subst (λ t. Contains t z) s.is (f z (Contains-tail x xs z c))) (λ e. fresh (subst (Contains xs) (sym e) c)))
-      (λ z c. elim (Contains_cases x xs z (g z (subst (λ t. Contains t z) (sym s.is) (within s.front s.back x z c)))) [ inl e ↦ absurd (once s.front s.back x there (subst (Contains (s.front ++ s.back)) (sym e) c)) | inr q ↦ q ])
+          (omega (arith, ap length s.is, length-append s.front (x ∷ s.back), length-append s.front s.back))
+          (λ z c. without s.front s.back x z (subst (λ t. Contains t z) s.is (f z (Contains-tail x xs z c))) (λ e. fresh (subst (Contains xs) (sym e) c)))
+          (λ z c. elim (Contains_cases x xs z (g z (subst (λ t. Contains t z) (sym s.is) (within s.front s.back x z c)))) [ inl e ↦ absurd (once s.front s.back x there (subst (Contains (s.front ++ s.back)) (sym e) c)) | inr q ↦ q ]),
     )
 
 pub AllDistinct-append : {A : Type 0} (xs ys : List A) → AllDistinct xs → AllDistinct ys → ((z : A) → Contains xs z → Contains ys z → ⊥) → AllDistinct (xs ++ ys)
 AllDistinct-append [] ys d e f = e
 AllDistinct-append (x ∷ xs) ys d e f = (
   λ c. elim (Contains-append_cases xs ys x c) [ inl p ↦ d.0 p | inr q ↦ f x (Contains-head x xs) q ],
-  AllDistinct-append xs ys d.1 e (λ z p q. f z (Contains-tail x xs z p) q)
+  AllDistinct-append xs ys d.1 e (λ z p q. f z (Contains-tail x xs z p) q),
 )
 
 pub Contains-map : {A B : Type 0} (f : A → B) (xs : List A) (x : A) → Contains xs x → Contains (map f xs) (f x)
@@ -114,7 +113,7 @@ pub AllDistinct-map : {A B : Type 0} (f : A → B) (xs : List A) → ((x y : A) 
 AllDistinct-map f [] apart d = tt
 AllDistinct-map {A = A} f (x ∷ xs) apart d = (
   λ c. let r : (z : A) × Contains xs z × (f z ≡ f x) = Contains-from_map f xs (f x) c in d.0 (subst (Contains xs) (apart r.0 x (Contains-tail x xs r.0 r.1) (Contains-head x xs) r.2) r.1),
-  AllDistinct-map f xs (λ y z p q. apart y z (Contains-tail x xs y p) (Contains-tail x xs z q)) d.1
+  AllDistinct-map f xs (λ y z p q. apart y z (Contains-tail x xs y p) (Contains-tail x xs z q)) d.1,
 )
 
 pub AllDistinct-apart : {A : Type 0} (xs : List A) (i j : ℕ) (d : A) → AllDistinct xs → i < j → j < length xs → ¬ (get_or xs i d ≡ get_or xs j d)
@@ -127,5 +126,5 @@ pub AllDistinct-from_sorted : {A : Type 0} (R : A → A → Ordering) → ((x : 
 AllDistinct-from_sorted R n [] s = tt
 AllDistinct-from_sorted R n (x ∷ xs) s = (
   λ c. n x (All-contains (λ y. R x y ≡ Less) xs x (All-from_recursion (λ y. R x y ≡ Less) xs (sorted_head R x xs s)) c),
-  AllDistinct-from_sorted R n xs (sorted_tail R x xs s)
+  AllDistinct-from_sorted R n xs (sorted_tail R x xs s),
 )

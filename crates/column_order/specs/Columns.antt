@@ -1,5 +1,5 @@
 -- The columns of a weight and a depth: which monomials they are, how many, and their list in lead order.
-use Rattle.std.specs.Prelude.{◌≡◌, ℕ, zero, suc, ◌+◌, ◌-◌, ◌≤◌, ◌↔◌, List, length}
+use Rattle.std.specs.Prelude.{◌≡◌, ℕ, zero, suc, ◌+◌, ◌-◌, ◌<◌, ◌≤◌, ◌↔◌, List, length}
 use Rattle.std.proofs.Common.{refl}
 use Rattle.std.specs.Coded.{Coded, code_by, coded×, coded_ℕ, coded_list}
 use Rattle.std.specs.List.{Contains}
@@ -38,6 +38,13 @@ column_count w d = binomial_sum (w - 2) d
 pub record IsColumnList (ranks : List Letter → ℕ) (w d : ℕ) (list : List (List (List Letter))) : Type 0 where
   pub in_order : IsStrictlySortedBy (lead_cmp ranks) list
   pub whole : (p : List (List Letter)) → Contains list p ↔ IsColumn w d p
+
+-- the weights and depths for which columns are listed
+pub record HasLimits (w d : ℕ) : Type 0 where
+  pub least : 2 ≤ w
+  pub most : w ≤ 24
+  pub some : 1 ≤ d
+  pub below : d < w
 
 -- a list of columns with their weight, the greatest depth, and the mode of their order
 pub record ColumnList : Type 0 where

@@ -77,7 +77,12 @@ impl Ord for Column {
 }
 
 /// The columns of a weight and a depth with their standings, in lead order.
-pub(crate) fn sorted_columns<F: Fn(Word) -> u32>(alloc: Global, w: u32, d: u32, rule: &RankRule<F>) -> Result<Vec<Column>, AllocError>
+pub(crate) fn sorted_columns<F: Fn(Word) -> u32>(
+    alloc: Global,
+    w: u32,
+    d: u32,
+    rule: &RankRule<F>,
+) -> Result<Vec<Column>, AllocError>
     requires least { 2 ≤ w }
     requires most { w ≤ 24 }
     requires some { 1 ≤ d }
@@ -90,7 +95,12 @@ pub(crate) fn sorted_columns<F: Fn(Word) -> u32>(alloc: Global, w: u32, d: u32, 
 }
 
 /// The columns of a weight and a depth with their standings, by their words.
-fn columns_of<F: Fn(Word) -> u32>(alloc: Global, w: u32, d: u32, rule: &RankRule<F>) -> Result<Vec<Column>, AllocError>
+fn columns_of<F: Fn(Word) -> u32>(
+    alloc: Global,
+    w: u32,
+    d: u32,
+    rule: &RankRule<F>,
+) -> Result<Vec<Column>, AllocError>
     requires least { 2 ≤ w }
     requires most { w ≤ 24 }
     requires some { 1 ≤ d }

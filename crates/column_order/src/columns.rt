@@ -4,8 +4,7 @@ ghost use Rattle.zeta_model.specs.declared.Letter.{Letter};
 ghost use Rattle.zeta_model.specs.Words.{depth_of};
 ghost use Rattle.lyndon_words.specs.Lyndon.{joined};
 ghost use Rattle.column_order.specs.Ranks.{AnswersRank, rank_of};
-ghost use Rattle.column_order.specs.Columns.{IsColumns, IsColumnList, column_count};
-ghost use Rattle.column_order.specs.Steps.{AreOf, words_behind};
+ghost use Rattle.column_order.specs.Columns.{IsColumn, IsColumns, column_count};
 
 use crate::column::{Column, sorted_columns};
 use crate::counting::count;
@@ -34,7 +33,7 @@ pub struct Columns {
 impl Model for Columns {
     ghost use Rattle.std.specs.Prelude.{◌≤◌, length};
     ghost use Rattle.column_order.specs.Ranks.{rank_of};
-    ghost use Rattle.column_order.specs.Columns.{ColumnList, column_list_code};
+    ghost use Rattle.column_order.specs.Columns.{ColumnList, HasLimits, column_list_code};
     ghost use Rattle.column_order.specs.Steps.{AreColumns, monomials_of};
 
     ghost Value = { ColumnList };
@@ -43,14 +42,19 @@ impl Model for Columns {
 
     ghost view = { λ c. record { weight = c.weight; depth = c.depth; mode = c.mode; list = monomials_of c.columns.items } };
 
-    ghost invariant = { λ c. AreColumns (rank_of c.mode) c.weight c.depth c.columns.items × (length c.columns.items ≤ 2048) };
+    ghost invariant = { λ c. AreColumns (rank_of c.mode) c.weight c.depth c.columns.items × HasLimits c.weight c.depth × (length c.columns.items ≤ 2048) };
 }
 
 impl Columns {
     /// The columns of weight `w` and depth at most `d`, in the lead order by the ranks that the rule's function answers.
     ///
     /// `TooManyColumns(n)` exactly where their number `n` is over 2,048; `Memory` where memory is wanting.
-    pub fn new<F: Fn(Word) -> u32>(alloc: Global, w: u32, d: u32, rule: &RankRule<F>) -> Result<Columns, ColumnsFault>
+    pub fn new<F: Fn(Word) -> u32>(
+        alloc: Global,
+        w: u32,
+        d: u32,
+        rule: &RankRule<F>,
+    ) -> Result<Columns, ColumnsFault>
         requires least { 2 ≤ w }
         requires most { w ≤ 24 }
         requires some { 1 ≤ d }
@@ -84,20 +88,25 @@ impl Columns {
         ensures length { result ≡ length self.now.list }
         ensures within { result ≤ 2048 }
         ensures columns { IsColumns self.now }
+        ensures count { result ≡ column_count self.now.weight self.now.depth }
     {
         self.columns.len() as u32
     }
 
-    /// The weight of each column.
+    /// The weight of each column, 2 to 24.
     pub fn weight(&self) -> u32
-        ensures { result ≡ self.now.weight }
+        ensures weight { result ≡ self.now.weight }
+        ensures least { 2 ≤ result }
+        ensures most { result ≤ 24 }
     {
         self.weight
     }
 
-    /// The greatest depth of a column.
+    /// The greatest depth of a column, below the weight.
     pub fn depth(&self) -> u32
-        ensures { result ≡ self.now.depth }
+        ensures depth { result ≡ self.now.depth }
+        ensures some { 1 ≤ result }
+        ensures below { result < self.now.weight }
     {
         self.depth
     }
@@ -112,7 +121,8 @@ impl Columns {
     /// The column at place `i`, from 0 for the one that comes first.
     pub fn at(&self, i: u32) -> &Monomial
         requires { i < length self.now.list }
-        ensures { slice_get self.now.list i ≡ Some result.now }
+        ensures at { slice_get self.now.list i ≡ Some result.now }
+        ensures column { IsColumn self.now.weight self.now.depth result.now }
     {
         &self.columns[i as usize].monomial
     }

@@ -28,7 +28,12 @@ pub fn leads<F: Fn(Word) -> u32>(rule: &RankRule<F>, a: &Monomial, b: &Monomial)
 }
 
 /// The lead order of two monomials with their standings.
-pub(crate) fn lead_order(a: &Monomial, a_stands: Standing, b: &Monomial, b_stands: Standing) -> Ordering
+pub(crate) fn lead_order(
+    a: &Monomial,
+    a_stands: Standing,
+    b: &Monomial,
+    b_stands: Standing,
+) -> Ordering
     ensures { result ≡ standing_cmp a.now a_stands b.now b_stands }
 {
     a.len()

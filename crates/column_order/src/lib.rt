@@ -18,3 +18,6 @@ pub use laws::lead_order_laws;
 pub use lead_order::leads;
 pub use rank_rule::RankRule;
 pub use ranks::{Mode, rank};
+
+#[cfg(test)]
+mod tests;

@@ -21,13 +21,7 @@ pub fn rank(mode: Mode, w: Word) -> u32
 {
     match mode {
         Mode::Lex => 0,
-        Mode::Odd => {
-            if has_odd_index(w) {
-                0
-            } else {
-                1
-            }
-        }
+        Mode::Odd => { if has_odd_index(w) { 0 } else { 1 } }
     }
 }
 

@@ -19,6 +19,6 @@ pub loop-word-preserved : goal.loop-word-preserved
 loop-word-preserved g c =
     let ws : List (List Letter) = c.deref-word-items.result.now in
     let more : AreOf (rank_of c.args.rule.now.mode) (take c.loop-word.word-index ws ++ c.word-item.result ∷ []) c.push.new.self.items =
-        subst (AreOf (rank_of c.args.rule.now.mode) (take c.loop-word.word-index ws ++ c.word-item.result ∷ [])) (sym c.in_ok-push.ensures.items)
-        (AreOf-push (rank_of c.args.rule.now.mode) (take c.loop-word.word-index ws) c.loop-word.columns.items c.word-item.result (record { monomial = c.factors-monomial.result; standing = c.standing-standing.result }) c.loop-word.invariant c.factors-monomial.ensures.monomial c.factors-monomial.ensures.factors.whole c.standing-standing.ensures.standing) in
+    subst (AreOf (rank_of c.args.rule.now.mode) (take c.loop-word.word-index ws ++ c.word-item.result ∷ [])) (sym c.in_ok-push.ensures.items)
+    (AreOf-push (rank_of c.args.rule.now.mode) (take c.loop-word.word-index ws) c.loop-word.columns.items c.word-item.result (record { monomial = c.factors-monomial.result; standing = c.standing-standing.result }) c.loop-word.invariant c.factors-monomial.ensures.monomial c.factors-monomial.ensures.factors.whole c.standing-standing.ensures.standing) in
     subst (λ t. AreOf (rank_of c.args.rule.now.mode) t c.push.new.self.items) (sym (take_more ws c.loop-word.word-index c.word-item.result (omega arith) ∙ ap (λ t. take c.loop-word.word-index ws ++ t ∷ []) (sym c.word-item.is))) more

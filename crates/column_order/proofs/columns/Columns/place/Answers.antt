@@ -9,5 +9,5 @@ returns-clause-place c =
     let list : IsColumns c.args.self.now = subst IsColumns c.self.view_is c.self.invariant.0.list in
     λ i. (
       λ e. let same : c.search.result ≡ i = cc in ap (slice_get c.args.self.now.list) (sym same) ∙ c.search.ensures,
-      λ e. ap Some (one_place (rank_of c.args.self.now.mode) c.args.self.now.list c.search.result i c.args.p.now list.in_order c.search.ensures e)
+      λ e. ap Some (one_place (rank_of c.args.self.now.mode) c.args.self.now.list c.search.result i c.args.p.now list.in_order c.search.ensures e),
     )
