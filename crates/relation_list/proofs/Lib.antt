@@ -4,3 +4,5 @@ pub mod WordListLemmas
 pub mod ListingLemmas
 pub mod Members
 pub mod WholeListing
+pub mod ValueLemmas
+pub mod HeldWords

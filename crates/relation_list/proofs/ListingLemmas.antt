@@ -1,5 +1,5 @@
 -- The names of depth at most d are those that the code makes.
-use Rattle.std.proofs.Common.{◌≡◌, ℕ, ◌+◌, ◌-◌, ◌≤◌, ◌<◌, max, nat_le, Bool, true, false, ◌&&◌, List, [], ◌∷◌, ◌++◌, map, filter, All, refl, sym, ap, ◌∙◌, arith}
+use Rattle.std.proofs.Common.{◌≡◌, ℕ, ◌+◌, ◌-◌, ◌≤◌, max, nat_le, Bool, true, false, ◌&&◌, List, [], ◌++◌, map, filter, All, refl, sym, ap, ◌∙◌, arith}
 use Rattle.std.specs.List.{flat_map, range_with_len}
 use Rattle.std.proofs.lemmas.List.Elements.{All-same, All-weaker, filter-append, filter_passes}
 use Rattle.std.proofs.lemmas.Bool.Decides.{nat_tests}
@@ -12,7 +12,7 @@ use Rattle.relation_list.specs.declared.names.RelName.{RelName}
 use Rattle.relation_list.specs.declared.names.RelName.TheVariants.{Plain, Prod}
 use Rattle.relation_list.specs.WordLists.{admissible_words}
 use Rattle.relation_list.specs.Names.{in_order, below_dual, direct_depth_of, depth_of_name}
-use Rattle.relation_list.specs.Listings.{fins, regs, duals, directs, prods, names, listing_of}
+use Rattle.relation_list.specs.Listings.{fins, regs, duals, directs, prods, listing_of}
 use Rattle.relation_list.specs.Steps.{words_within, fins_of, fins_at, fins_within, regs_at, regs_within, is_dual_within, duals_within, directs_within, prods_of, prods_at, prods_within}
 use Rattle.relation_list.proofs.FilterLemmas.{filter-map, filter-filter, filter-flat_map, flat_map_kept}
 use Rattle.relation_list.proofs.WordListLemmas.{words_within-left, words_within-none}

@@ -1,5 +1,5 @@
 -- What is known of the parts of a name; and no name is deeper than its weight.
-use Rattle.std.proofs.Common.{◌≡◌, ℕ, ◌+◌, ◌≤◌, nat_le, Bool, true, false, ◌&&◌, List, length, reverse, map, refl, sym, ap, ◌∙◌, arith}
+use Rattle.std.proofs.Common.{◌≡◌, ℕ, ◌≤◌, ◌<◌, nat_lt, nat_le, Bool, true, false, ◌&&◌, List, length, map, refl, sym, ap, ◌∙◌, arith}
 use Rattle.std.proofs.lemmas.List.{length-reverse, length-map}
 use Rattle.std.proofs.lemmas.List.Sums.{count_by-le-length}
 use Rattle.std.proofs.lemmas.Bool.Decides.{nat_tests}
@@ -58,3 +58,11 @@ prod-parts n r u h e =
   where
     high : (k : ℕ) → nat_le 3 k ≡ true → 3 ≤ k
     high k h = grind (arith, nat_tests)
+
+pub reg-parts : (r : Direct) (m : ℕ) (v : List Letter) → is_direct r ≡ true → r ≡ Reg m v → (0 < m) × (is_admissible v ≡ true)
+reg-parts r m v h e =
+    let f : is_direct (Reg m v) ≡ true = ap is_direct (sym e) ∙ h in
+    (above m (both_first (nat_lt 0 m) (is_admissible v) f), both_second (nat_lt 0 m) (is_admissible v) f)
+  where
+    above : (m : ℕ) → nat_lt 0 m ≡ true → 0 < m
+    above m h = grind (arith, nat_tests)

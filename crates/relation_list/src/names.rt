@@ -37,7 +37,7 @@ pub fn is_name(name: &RelName) -> bool
     formed && whole_weight(name) <= MAX_WEIGHT as u64
 }
 
-/// The weight of the words of the relation, 3 to 24.
+/// The weight of the relation: each word of its value has so many letters.
 pub fn weight(name: &RelName) -> u32
     requires { IsTrue (is_name_of name.now) }
     ensures weight { result ≡ weight_of_name name.now }
@@ -46,7 +46,7 @@ pub fn weight(name: &RelName) -> u32
     whole_weight(name) as u32
 }
 
-/// The depth of the relation: no word of it has more letters y. It is 1 to 24.
+/// The depth of the relation: no word of its value has more letters y.
 pub fn depth(name: &RelName) -> u32
     requires { IsTrue (is_name_of name.now) }
     ensures depth { result ≡ depth_of_name name.now }

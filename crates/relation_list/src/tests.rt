@@ -1,6 +1,8 @@
-//! Listings as they are printed, their lengths, and what is no name.
+//! Listings as they are printed, their lengths, what is no name, and values.
 use super::*;
+use residues::WordMod;
 use std::alloc::{AllocError, Global};
+use std::test::Fail;
 use word_letters::Word;
 
 fn word(ks: &[u32]) -> Word {
@@ -159,4 +161,72 @@ fn names_have_depths_and_other_words_make_none(rt: HostRuntime) {
     for (shown, name, expected) in table {
         assert_eq!(rt; depth_of(&name), expected, "{shown}");
     }
+}
+
+#[test]
+fn names_have_values(rt: HostRuntime) -> Result<(), Fail> {
+    let ring = WordMod::new(101)?;
+    // what it is printed as, the name, and the terms of its value modulo 101
+    let table: [(&str, RelName, &[(u64, &[u32])]); 6] = [
+        (
+            "Fin z(2) z(2)",
+            RelName::Plain(fin(&[2], &[2])),
+            &[(100, &[4]), (4, &[3, 1])],
+        ),
+        (
+            "Fin z(2) z(3)",
+            RelName::Plain(fin(&[2], &[3])),
+            &[(100, &[5]), (6, &[4, 1]), (2, &[3, 2])],
+        ),
+        (
+            "Reg 1 z(3)",
+            RelName::Plain(reg(1, &[3])),
+            &[(1, &[4]), (100, &[3, 1]), (100, &[2, 2])],
+        ),
+        (
+            "Reg 2 z(2)",
+            RelName::Plain(reg(2, &[2])),
+            &[(100, &[3, 1]), (100, &[2, 2]), (1, &[2, 1, 1])],
+        ),
+        (
+            "Dual z(4)",
+            RelName::Plain(dual(&[4])),
+            &[(1, &[4]), (100, &[2, 1, 1])],
+        ),
+        (
+            "Prod [Dual z(3)] z(2)",
+            prod(dual(&[3]), &[2]),
+            &[
+                (6, &[4, 1]),
+                (3, &[3, 2]),
+                (95, &[3, 1, 1]),
+                (1, &[2, 3]),
+                (98, &[2, 2, 1]),
+                (100, &[2, 1, 2]),
+            ],
+        ),
+    ];
+    for (shown, name, terms) in table {
+        assert!(rt; has_value(rt.alloc(), &ring, &name, terms)?, "{shown}");
+    }
+    Ok(())
+}
+
+/// Whether the value of the name has these terms and no others.
+fn has_value(
+    alloc: Global,
+    ring: &WordMod,
+    name: &RelName,
+    terms: &[(u64, &[u32])],
+) -> Result<bool, AllocError> {
+    if !is_name(name) {
+        return Ok(false);
+    }
+    let sum = value(alloc, ring, name)?;
+    for (number, index) in terms {
+        if sum.coefficient(ring, word(index)) != *number {
+            return Ok(false);
+        }
+    }
+    Ok(sum.len() == terms.len())
 }

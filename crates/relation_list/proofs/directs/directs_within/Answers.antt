@@ -1,4 +1,4 @@
-use Rattle.std.proofs.Common.{◌≡◌, [], ◌++◌, ap, ◌∙◌, append_assoc}
+use Rattle.std.proofs.Common.{◌++◌, ap, ◌∙◌, append_assoc}
 use Rattle.relation_list.specs.Steps.{fins_within, regs_within, duals_within, directs_within}
 use Rattle.relation_list.proofs.directs.directs_within.Goals as goal
 

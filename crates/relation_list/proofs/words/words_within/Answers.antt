@@ -1,4 +1,4 @@
-use Rattle.std.proofs.Common.{◌≡◌, ◌-◌, [], ◌∷◌, ◌++◌, sym, ap, ◌∙◌, arith}
+use Rattle.std.proofs.Common.{◌-◌, [], ◌∷◌, ◌++◌, sym, ap, ◌∙◌, arith}
 use Rattle.zeta_model.specs.declared.Letter.TheVariants.{X}
 use Rattle.relation_list.specs.Steps.{words_behind}
 use Rattle.relation_list.proofs.WordListLemmas.{words_within-small, words_within-behind}
