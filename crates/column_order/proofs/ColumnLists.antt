@@ -1,6 +1,6 @@
 -- The list of columns is whole, stands in lead order once it is sorted, and has as many monomials as there are words.
-use Rattle.std.proofs.Common.{◌≡◌, ℕ, ◌+◌, ◌-◌, ◌<◌, ◌≤◌, suc, ◌↔◌, true, false, IsTrue, List, [], ◌∷◌, ◌++◌, length, map, get_or, refl, sym, ap, subst, ◌∙◌, arith}
-use Rattle.std.proofs.lemmas.List.{length-map, map-append, get_or-map}
+use Rattle.std.proofs.Common.{◌≡◌, ℕ, ◌+◌, ◌-◌, ◌<◌, ◌≤◌, suc, ◌↔◌, true, false, List, [], ◌∷◌, ◌++◌, length, map, take, get_or, refl, sym, ap, subst, ◌∙◌, arith}
+use Rattle.std.proofs.lemmas.List.{length-map, map-append, get_or-map, take_more}
 use Rattle.std.specs.List.{All, Contains}
 use Rattle.std.specs.List.Sorted.{IsPermutation, IsSorted, IsStrictlySortedBy}
 use Rattle.std.proofs.lemmas.List.Elements.{All-map, All-contains, All-weaker, All-get_or, All-push}
@@ -13,7 +13,7 @@ use Rattle.std.specs.Cmp.{IsTotalOrder}
 use Rattle.std.specs.Cmp.Lexicographic.{slice_cmp}
 use Rattle.zeta_model.specs.declared.Letter.{Letter}
 use Rattle.zeta_model.specs.declared.Letter.TheVariants.{X}
-use Rattle.zeta_model.specs.Words.{word_cmp, depth_of, is_admissible}
+use Rattle.zeta_model.specs.Words.{word_cmp, depth_of}
 use Rattle.lyndon_words.specs.Lyndon.{joined, IsFactors}
 use Rattle.lyndon_words.specs.Monomials.{IsMonomial}
 use Rattle.lyndon_words.proofs.AdmissibleFactors.{joined-admissible}
@@ -143,7 +143,7 @@ AreColumns-sorted f w d cs es h g of moved sorted =
     }
 
 -- one more word with its column
-pub AreOf-push : (f : List Letter → ℕ) (ws : List (List Letter)) (cs : List Column) (w : List Letter) (c : Column) → AreOf f ws cs → IsMonomial c.monomial → joined c.monomial ≡ w → IsStanding f c.monomial c.standing → AreOf f (ws ++ w ∷ []) (cs ++ c ∷ [])
+AreOf-push : (f : List Letter → ℕ) (ws : List (List Letter)) (cs : List Column) (w : List Letter) (c : Column) → AreOf f ws cs → IsMonomial c.monomial → joined c.monomial ≡ w → IsStanding f c.monomial c.standing → AreOf f (ws ++ w ∷ []) (cs ++ c ∷ [])
 AreOf-push f ws cs w c of m e s = record {
   words = ap (map joined) (map-append (λ (c : Column). c.monomial) cs (c ∷ [])) ∙ map-append joined (monomials_of cs) (c.monomial ∷ []) ∙ (λ i. of.words i ++ e i ∷ []);
   stood = All-push (IsStood f) cs c of.stood (record { monomial = m; standing = s });
@@ -151,3 +151,9 @@ AreOf-push f ws cs w c of m e s = record {
 
 pub word_at : (xs ys : List (List Letter)) (i : ℕ) (w : List Letter) → xs ≡ ys → i < length xs → w ≡ get_or xs i w → Contains ys w
 word_at xs ys i w e h g = subst (λ t. Contains t w) e (i, h, sym g)
+
+-- the word at place i, with its column, behind those before it
+pub AreOf-next : (f : List Letter → ℕ) (ws : List (List Letter)) (i : ℕ) (w : List Letter) (cs ds : List Column) (c : Column) → i < length ws → w ≡ get_or ws i w → AreOf f (take i ws) cs → ds ≡ cs ++ c ∷ [] → IsMonomial c.monomial → joined c.monomial ≡ w → IsStanding f c.monomial c.standing → AreOf f (take (i + 1) ws) ds
+AreOf-next f ws i w cs ds c h g of e m j s =
+    let words : take (i + 1) ws ≡ take i ws ++ w ∷ [] = take_more ws i w h ∙ ap (λ t. take i ws ++ t ∷ []) (sym g) in
+    subst (λ t. AreOf f t ds) (sym words) (subst (AreOf f (take i ws ++ w ∷ [])) (sym e) (AreOf-push f (take i ws) cs w c of m j s))

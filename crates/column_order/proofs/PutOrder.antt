@@ -1,5 +1,5 @@
 -- A factor that is put into two lists leaves the order of the lists as it is, and in which order factors are put does not matter.
-use Rattle.std.proofs.Common.{◌≡◌, ◌⊎◌, inl, inr, Bool, true, false, cond, List, [], ◌∷◌, refl, sym, ap, subst, ◌∙◌}
+use Rattle.std.proofs.Common.{◌≡◌, Bool, true, false, cond, List, [], ◌∷◌, refl, sym, ap, ◌∙◌}
 use Rattle.std.specs.declared.cmp.Ordering.{Ordering}
 use Rattle.std.specs.declared.cmp.Ordering.TheVariants.{Less, Equal, Greater}
 use Rattle.std.specs.Ordering.{is_lt, is_gt, ordering_then, ordering_reverse}
@@ -9,10 +9,9 @@ use Rattle.std.proofs.lemmas.Cmp.{lists_total}
 use Rattle.zeta_model.specs.declared.Letter.{Letter}
 use Rattle.zeta_model.specs.Words.{word_cmp}
 use Rattle.zeta_model.proofs.WordOrder.{word_cmp_total, word_cmp-IsAntisymmetric}
-use Rattle.lyndon_words.specs.Lyndon.{IsBefore, IsAtLeast, Falls}
+use Rattle.lyndon_words.specs.Lyndon.{IsAtLeast, Falls}
 use Rattle.lyndon_words.specs.Monomials.{put, product_of}
 use Rattle.lyndon_words.proofs.Suffixes.{is_lt-Less}
-use Rattle.lyndon_words.proofs.JoinFront.{not_before}
 
 itself : (w : List Letter) → word_cmp w w ≡ Equal
 itself w = tied_itself word_cmp_total w

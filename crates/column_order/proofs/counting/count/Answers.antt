@@ -1,6 +1,6 @@
 use Rattle.std.proofs.Common.{◌≡◌, ◌+◌, ◌-◌, ◌*◌, ◌/◌, ◌≤◌, sym, ap, ◌∙◌, arith}
 use Rattle.std.proofs.Math.Nat.{mul-le-mul}
-use Rattle.column_order.specs.Columns.{binomial, binomial_sum}
+use Rattle.column_order.specs.Columns.{binomial_sum}
 use Rattle.column_order.proofs.BinomialSums.{binomial-none, binomial_sum-none, binomial_sum-next, binomial-next, binomial-le}
 use Rattle.column_order.proofs.ColumnLists.{length-columns}
 use Rattle.column_order.proofs.counting.count.Goals as goal

@@ -1,4 +1,4 @@
-use Rattle.std.proofs.Common.{◌≡◌, ◌≤◌, ◌⊎◌, inl, inr, ℕ, length, sym, ap, ◌∙◌, arith}
+use Rattle.std.proofs.Common.{◌≡◌, length, sym, ◌∙◌, arith}
 use Rattle.std.specs.Ordering.{nat_cmp}
 use Rattle.column_order.proofs.Comparing.{is_ne-true, is_ne-false, compared_differs, compared_same, compared_end, min_reached}
 use Rattle.column_order.proofs.lead_order.factor_order.Goals as goal

@@ -1,6 +1,6 @@
 use Rattle.std.proofs.Common.{◌+◌, Some, ap, sym, ◌∙◌, arith}
 use Rattle.std.specs.List.{list_all}
-use Rattle.zeta_model.specs.Indices.{index_of, index_from}
+use Rattle.zeta_model.specs.Indices.{index_of}
 use Rattle.column_order.specs.Ranks.{is_odd_from_3}
 use Rattle.column_order.proofs.Ranking.{index_from-x, index_from-y_odd, index_from-y_other, read_on}
 use Rattle.column_order.proofs.ranks.has_odd_index.Goals.{in-X, in-Y+else-not-is_odd_from_3}

@@ -1,8 +1,7 @@
-use Rattle.std.proofs.Common.{◌≡◌, ℕ, ◌+◌, ◌/◌, ◌-◌, ◌<◌, ◌≤◌, List, Some, length, slice_get, refl, sym, ap, subst, ◌∙◌, arith}
-use Rattle.std.specs.declared.cmp.Ordering.{Ordering}
+use Rattle.std.proofs.Common.{ℕ, ◌+◌, ◌/◌, ◌-◌, ◌<◌, slice_get, sym, ap, ◌∙◌, arith}
 use Rattle.std.specs.declared.cmp.Ordering.TheVariants.{Less, Equal, Greater}
 use Rattle.column_order.specs.Ranks.{rank_of}
-use Rattle.column_order.specs.Steps.{AreColumns, monomials_of}
+use Rattle.column_order.specs.Steps.{AreColumns}
 use Rattle.column_order.proofs.Places.{Compares, compares, column_place, place_behind, place_before, place_here}
 use Rattle.column_order.proofs.columns.Columns.search.Goals as goal
 

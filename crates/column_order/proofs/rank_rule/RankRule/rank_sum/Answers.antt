@@ -1,4 +1,4 @@
-use Rattle.std.proofs.Common.{◌≡◌, ◌+◌, ◌≤◌, arith}
+use Rattle.std.proofs.Common.{◌≡◌, arith}
 use Rattle.column_order.specs.Ranks.{rank_of, IsRanked}
 use Rattle.column_order.proofs.Ranking.{rank_of-le, IsRanked-factor, sum_by-one_more}
 use Rattle.column_order.proofs.rank_rule.RankRule.rank_sum.Goals as goal
