@@ -18,9 +18,9 @@ HERE = os.path.dirname(os.path.abspath(__file__))
 ROOT = os.path.dirname(HERE)
 
 
-def build_proved(name, work):
-    """The program, proved and built by LLVM."""
-    source = os.path.join(HERE, name)
+def build_proved(source, work):
+    """The program of a folder, proved and built by LLVM."""
+    name = os.path.basename(source)
     shutil.copytree(os.path.join(ROOT, "crates"), os.path.join(work, "crates"), ignore=shutil.ignore_patterns("out"))
     with open(os.path.join(ROOT, "crates.txt")) as given, open(os.path.join(work, "crates.txt"), "w") as listed:
         listed.write(given.read())
@@ -59,7 +59,7 @@ def main():
         for name in words:
             folder = os.path.join(work, name)
             os.mkdir(folder)
-            programs[name, "proved"] = build_proved(name, folder)
+            programs[name, "proved"] = build_proved(os.path.join(HERE, name), folder)
             programs[name, "plain"] = build_plain(name, folder)
         rows = {which: [] for which in programs}
         for _ in range(runs):
