@@ -1,2 +1,3 @@
 pub mod Gains
 pub mod SumProducts
+pub mod Cells

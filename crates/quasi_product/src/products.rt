@@ -1,11 +1,12 @@
 //! The product of two words.
 ghost use Rattle.std.specs.Prelude.{◌≡◌, ℕ, ◌+◌, ◌%◌, ◌<◌, ◌≤◌, ◌↔◌, ◌++◌, true, length, drop, List, OnOk, IfOk, IfSome, IsErrOf};
-ghost use Rattle.quasi_product.specs.Gains.{count_behind, Gains};
+ghost use Rattle.quasi_product.specs.Gains.{Gains};
 ghost use Rattle.word_sums.specs.Terms.{coefficient_of, AllIn};
 ghost use Rattle.zeta_model.specs.Product.{IsLetter, prod, rest};
 ghost use Rattle.zeta_model.specs.Sums.{scaled, sum_of};
 ghost use Rattle.zeta_model.specs.declared.Letter.{Letter};
 
+use crate::rows::product_terms;
 use crate::{Letters, ProductFault};
 use residues::Ring;
 use std::alloc::{AllocError, Global};
@@ -36,7 +37,7 @@ pub fn product<L: Letters, R: Ring>(
         return Err(ProductFault::TooLong(weight));
     }
     let mut sum = WordSum::new(alloc);
-    match add_products::<L, R>(ring, Word::empty(), u, v, &mut sum) {
+    match add_product::<L, R>(alloc, ring, ring.one(), u, v, &mut sum) {
         Ok(()) => Ok(sum),
         Err(e) => Err(ProductFault::Memory(e)),
     }
@@ -61,72 +62,34 @@ pub(crate) fn add_product<L: Letters, R: Ring>(
         (coefficient_of (R.value ring.now) sum.new) (scaled (R.value ring.now c) (sum_of (prod L.alphabet u v)))) }
     ensures in_ring { AllIn (R.has ring.now) sum.new }
 {
-    let mut terms = WordSum::new(alloc);
-    add_products::<L, R>(ring, Word::empty(), u, v, &mut terms)?;
-    add_multiple(ring, c, &terms, sum)?;
+    let terms = product_terms::<L, R>(alloc, ring, c, u, v)?;
+    add_terms(ring, terms.as_slice(), sum)?;
     Ok(())
 }
 
-/// Adds `c` times each of the terms in turn. After want of memory only some of them are added.
-fn add_multiple<R: Ring>(
+/// Adds each of the terms in turn. After want of memory only some of them are added.
+fn add_terms<R: Ring>(
     ring: &R,
-    c: R::Elem,
-    terms: &WordSum<R>,
+    terms: &[(Word, R::Elem)],
     sum: &mut WordSum<R>,
 ) -> Result<(), AllocError>
-    requires has_c { R.has ring.now c ≡ true }
     requires terms_in_ring { AllIn (R.has ring.now) terms.now }
     requires in_ring { AllIn (R.has ring.now) sum.old }
     requires below { (t : List Letter) → coefficient_of (R.value ring.now) sum.old t < R.modulus ring.now }
     ensures ok { OnOk result (Gains (R.modulus ring.now) (coefficient_of (R.value ring.now) sum.old)
-        (coefficient_of (R.value ring.now) sum.new) (scaled (R.value ring.now c) (coefficient_of (R.value ring.now) terms.now))) }
+        (coefficient_of (R.value ring.now) sum.new) (coefficient_of (R.value ring.now) terms.now)) }
     ensures in_ring { AllIn (R.has ring.now) sum.new }
 {
-    for (word, residue) in terms.iter() {
-        sum.add_term(ring, *word, ring.mul(c, *residue))?;
+    let mut rest = terms;
+    while let Some((term, behind)) = rest.split_first() {
+        sum.add_term(ring, term.0, term.1)?;
+        rest = behind;
     }
     Ok(())
 }
 
-/// Adds each word of the product of `u` and `v`, with `front` before it. After want of memory only some of them are added.
-fn add_products<L: Letters, R: Ring>(
-    ring: &R,
-    front: Word,
-    u: Word,
-    v: Word,
-    sum: &mut WordSum<R>,
-) -> Result<(), AllocError>
-    requires covers_u { L.alphabet.covered u ≡ true }
-    requires covers_v { L.alphabet.covered v ≡ true }
-    requires fits { length front + length u + length v ≤ 24 }
-    requires in_ring { AllIn (R.has ring.now) sum.old }
-    ensures ok { OnOk result (Gains (R.modulus ring.now) (coefficient_of (R.value ring.now) sum.old)
-        (coefficient_of (R.value ring.now) sum.new) (count_behind L.alphabet front u v)) }
-    ensures in_ring { AllIn (R.has ring.now) sum.new }
-{
-    if u.weight() == 0 {
-        sum.add_term(ring, joined(front, v), ring.one())?;
-        return Ok(());
-    }
-    if v.weight() == 0 {
-        sum.add_term(ring, joined(front, u), ring.one())?;
-        return Ok(());
-    }
-    let (a, u_rest) = cut::<L>(u);
-    let (b, v_rest) = cut::<L>(v);
-    add_products::<L, R>(ring, joined(front, a), u_rest, v, sum)?;
-    add_products::<L, R>(ring, joined(front, b), u, v_rest, sum)?;
-    match join_letters::<L>(a, b) {
-        None => Ok(()),
-        Some(c) => {
-            add_products::<L, R>(ring, joined(front, c), u_rest, v_rest, sum)?;
-            Ok(())
-        }
-    }
-}
-
 /// The first letter of a covered word, and the rest.
-fn cut<L: Letters>(w: Word) -> (Word, Word)
+pub(crate) fn cut<L: Letters>(w: Word) -> (Word, Word)
     requires some { 0 < length w }
     requires fits { length w ≤ 24 }
     requires covered { L.alphabet.covered w ≡ true }
@@ -142,7 +105,7 @@ fn cut<L: Letters>(w: Word) -> (Word, Word)
 }
 
 /// What two letters join to, of their weight together.
-fn join_letters<L: Letters>(a: Word, b: Word) -> Option<Word>
+pub(crate) fn join_letters<L: Letters>(a: Word, b: Word) -> Option<Word>
     requires letter_a { IsLetter L.alphabet a }
     requires letter_b { IsLetter L.alphabet b }
     requires fits { length a + length b ≤ 24 }
@@ -165,7 +128,7 @@ fn behind(w: Word, n: u32) -> Word
 }
 
 /// One word with another behind it.
-fn joined(front: Word, w: Word) -> Word
+pub(crate) fn joined(front: Word, w: Word) -> Word
     requires { length front + length w ≤ 24 }
     ensures { result ≡ front ++ w }
 {

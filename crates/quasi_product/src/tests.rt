@@ -3,10 +3,11 @@ ghost use Rattle.std.specs.Prelude.{IfOk};
 ghost use Rattle.word_sums.specs.Terms.{AllIn};
 
 use super::*;
+use crate::plain::plain_product;
 use residues::{Ring, WordMod};
 use std::alloc::{AllocError, Global};
 use std::test::Fail;
-use word_letters::Word;
+use word_letters::{Letter, Word};
 use word_sums::WordSum;
 
 fn word(ks: &[u32]) -> Word {
@@ -203,5 +204,58 @@ fn sums_over_weight_24_are_refused(rt: HostRuntime) -> Result<(), Fail> {
     let b = sum_of(rt.alloc(), &ring, &[(1, &[13])])?;
     let shuffle = product_sums::<ShuffleLetters, WordMod>(rt.alloc(), &ring, &a, &b);
     assert!(rt; matches!(&shuffle, Err(ProductFault::TooLong(25))));
+    Ok(())
+}
+
+/// A word of a weight that is drawn, with its letters.
+fn drawn_word(seed: &mut u64, greatest: u32) -> Word {
+    let mut w = Word::empty();
+    let weight = draw(seed) % (greatest.min(12) + 1);
+    for _ in 0..weight {
+        let letter = if draw(seed) % 2 == 0 {
+            Letter::X
+        } else {
+            Letter::Y
+        };
+        w = match w.push_front(letter) {
+            Ok(longer) => longer,
+            Err(_) => w,
+        };
+    }
+    w
+}
+
+/// The next of a run of numbers.
+fn draw(seed: &mut u64) -> u32 {
+    *seed = seed
+        .wrapping_mul(6_364_136_223_846_793_005)
+        .wrapping_add(1_442_695_040_888_963_407);
+    (*seed >> 40) as u32
+}
+
+/// Whether the product of two words is that of the plain recursion.
+fn agrees<L: Letters>(alloc: Global, ring: &WordMod, u: Word, v: Word) -> Result<bool, Fail> {
+    if !L::covers(u) || !L::covers(v) || u.weight() + v.weight() > 24 {
+        return Ok(true);
+    }
+    let sum = product::<L, WordMod>(alloc, ring, u, v)?;
+    let plain = plain_product::<L, WordMod>(alloc, ring, u, v)?;
+    let sum = sum.sorted()?;
+    let plain = plain.sorted()?;
+    Ok(sum.as_slice() == plain.as_slice())
+}
+
+#[test]
+fn products_are_those_of_the_recursion(rt: HostRuntime) -> Result<(), Fail> {
+    let mut seed = 1;
+    for m in [3, 101, (1 << 61) - 1] {
+        let ring = WordMod::new(m)?;
+        for _ in 0..60 {
+            let u = drawn_word(&mut seed, 8);
+            let v = drawn_word(&mut seed, 8);
+            assert!(rt; agrees::<ShuffleLetters>(rt.alloc(), &ring, u, v)?);
+            assert!(rt; agrees::<StuffleLetters>(rt.alloc(), &ring, u, v)?);
+        }
+    }
     Ok(())
 }

@@ -2,7 +2,7 @@ use Rattle.std.proofs.Common.{ap, arith, ◌∙◌}
 use Rattle.zeta_model.specs.Sums.{single}
 use Rattle.quasi_product.specs.Gains.{count_behind}
 use Rattle.quasi_product.proofs.GainLemmas.{gains_word, gains_same, gains_two, gains_three, count_left, count_right}
-use Rattle.quasi_product.proofs.products.+add_products.Goals as goal
+use Rattle.quasi_product.proofs.plain.+add_products.Goals as goal
 
 pub returns-then-weight-eq0-clause-ok : goal.returns-then-weight-eq0-clause-ok
 returns-then-weight-eq0-clause-ok g t c =
