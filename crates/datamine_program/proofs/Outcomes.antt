@@ -3,10 +3,10 @@ use Rattle.std.proofs.Common.{◌≡◌, ◌⊎◌, inl, inr, ℕ, List, [], ◌
 use Rattle.std.proofs.lemmas.List.{append-nil}
 use Rattle.std.specs.Prelude.{Ok, IfOk}
 use Rattle.outside_io.specs.Told.{after_told, AppendsFront}
-use Rattle.outside_io.proofs.Telling.{after-after}
+use Rattle.outside_io.proofs.Telling.{after-after, after-nothing}
 use Rattle.line_loop.specs.Talk.{Tells}
 use Rattle.datamine_program.specs.declared.status.Status.{Status}
-use Rattle.datamine_program.specs.declared.status.Status.TheVariants.{WriteFault}
+use Rattle.datamine_program.specs.Statuses.{BreaksOff}
 use Rattle.dual_reply.proofs.CanonicalLaw.{reply_canonical, reply_exact, reply_folded, reply_told}
 use Rattle.datamine_program.specs.declared.words.Command.{Command}
 use Rattle.datamine_program.specs.declared.words.Command.TheVariants.{Dual}
@@ -19,18 +19,18 @@ some_input : (left : Option (List ℕ)) → (input : List ℕ) × Tells left inp
 some_input None = ([], tt)
 some_input (Some xs) = (xs, refl)
 
--- a run that writes a line and reads nothing
-pub refused : (asked : Asked) (line : List ℕ) (end result : Status) (taken taken_new left : Option (List ℕ)) → ((input : List ℕ) → output_of asked input ≡ line) → ((input : List ℕ) → status_of asked input ≡ end)
-    → AppendsFront taken taken_new line → ((taken_new ≡ after_told taken line) × (result ≡ end)) ⊎ (result ≡ WriteFault) → Outcome asked left taken taken_new result
-refused asked line end result taken taken_new left says ends front whole =
+-- a run that writes these bytes, whatever the input is
+pub writes_only : (asked : Asked) (bytes : List ℕ) (end result : Status) (taken taken_new left : Option (List ℕ)) → ((input : List ℕ) → output_of asked input ≡ bytes) → ((input : List ℕ) → status_of asked input ≡ end)
+    → AppendsFront taken taken_new bytes → BreaksOff result ⊎ ((taken_new ≡ after_told taken bytes) × (result ≡ end)) → Outcome asked left taken taken_new result
+writes_only asked bytes end result taken taken_new left says ends front whole =
     let input = some_input left in
     record {
       input = input.0;
       told = input.1;
       front = record { front = front.front; rest = front.rest; parts = says input.0 ∙ front.parts; taken = front.taken };
       whole = elim whole [
-        | inl done ↦ inr (done.0 ∙ ap (after_told taken) (sym (says input.0)), done.1 ∙ sym (ends input.0))
-        | inr fault ↦ inl (inr (inr (inr fault)))
+        | inl broken ↦ inl broken
+        | inr done ↦ inr (done.0 ∙ ap (after_told taken) (sym (says input.0)), done.1 ∙ sym (ends input.0))
       ];
     }
 
@@ -49,6 +49,10 @@ front_of t0 t1 a b so_far = record { front = so_far.front; rest = so_far.rest ++
 
 pub both : (t0 t1 t2 : Option (List ℕ)) (a b : List ℕ) → t1 ≡ after_told t0 a → t2 ≡ after_told t1 b → t2 ≡ after_told t0 (a ++ b)
 both t0 t1 t2 a b first next = next ∙ ap (λ (t : Option (List ℕ)). after_told t b) first ∙ after-after t0 a b
+
+-- nothing was written yet
+pub nothing_yet : (told : Option (List ℕ)) (bytes : List ℕ) → AppendsFront told told bytes
+nothing_yet told bytes = record { front = []; rest = bytes; parts = refl; taken = after-nothing told }
 
 -- all of the line was written
 pub wholly : (t0 t1 : Option (List ℕ)) (line : List ℕ) → t1 ≡ after_told t0 line → AppendsFront t0 t1 line

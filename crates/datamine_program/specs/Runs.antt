@@ -1,13 +1,16 @@
 -- What a whole run writes and how it ends, with ample memory and no fault, and what any run has of it.
-use Rattle.std.specs.Prelude.{◌≡◌, ◌⊎◌, ℕ, List, [], ◌∷◌, ◌++◌, length, Option, Result, Ok, Err, nat_lt, codes, decimal, if◌then◌else◌}
+use Rattle.std.specs.Prelude.{◌≡◌, ◌⊎◌, ℕ, ◌+◌, List, [], ◌∷◌, ◌++◌, length, Option, Result, Ok, Err, nat_lt, codes, decimal, if◌then◌else◌}
 use Rattle.outside_io.specs.Told.{before_told, after_told, AppendsFront}
 use Rattle.line_loop.specs.Lines.{whole_output, input_limit, cut, answers}
 use Rattle.line_loop.specs.Talk.{Tells}
 use Rattle.dual_reply.specs.Reply.{reply_of}
+use Rattle.relation_list.specs.declared.names.RelName.{RelName}
+use Rattle.relation_list.specs.Listings.{listing_of}
+use Rattle.relation_list.specs.Texts.{text_of}
 use Rattle.datamine_program.specs.declared.words.Command.{Command}
-use Rattle.datamine_program.specs.declared.words.Command.TheVariants.{Dual}
+use Rattle.datamine_program.specs.declared.words.Command.TheVariants.{Dual, List as ListOf}
 use Rattle.datamine_program.specs.declared.words.ParamFault.{ParamFault}
-use Rattle.datamine_program.specs.declared.words.ParamFault.TheVariants.{Modulus}
+use Rattle.datamine_program.specs.declared.words.ParamFault.TheVariants.{Weight, Depth, Modulus, Columns}
 use Rattle.datamine_program.specs.declared.words.WordsFault.{WordsFault}
 use Rattle.datamine_program.specs.declared.words.WordsFault.TheVariants.{Usage, Param}
 use Rattle.datamine_program.specs.declared.status.Status.{Status}
@@ -21,36 +24,53 @@ abbrev pub usage_line : List ℕ
 usage_line = codes "usage: dual M; list W D; reduce W D M ORDER; build FILE W D M ORDER; resume FILE W D M ORDER; check FILE; rewrite FILE; show FILE; sample W D M SEED COUNT" ++ 10 ∷ []
 
 abbrev pub fault_text : ParamFault → List ℕ
+fault_text (Weight w) = codes "weight " ++ decimal w
+fault_text (Depth d) = codes "depth " ++ decimal d
 fault_text (Modulus m) = codes "modulus " ++ decimal m
+fault_text (Columns n) = codes "columns " ++ decimal n
 
 abbrev pub param_line : ParamFault → List ℕ
 param_line fault = codes "bad parameter: " ++ (fault_text fault ++ 10 ∷ [])
+
+-- the line of a name: its number, a blank, its text, and the byte 10
+abbrev pub name_line : ℕ → RelName → List ℕ
+name_line number name = decimal number ++ (32 ∷ text_of name ++ (10 ∷ []))
+
+-- the lines of names that are numbered from `first` on
+abbrev pub name_lines : ℕ → List RelName → List ℕ
+name_lines first [] = []
+name_lines first (name ∷ names) = name_line first name ++ name_lines (first + 1) names
 
 -- all that is written to an input
 abbrev pub output_of : Asked → List ℕ → List ℕ
 output_of (Err Usage) input = usage_line
 output_of (Err (Param fault)) input = param_line fault
 output_of (Ok (Dual m)) input = whole_output input_limit (reply_of m) input
+output_of (Ok (ListOf w d)) input = name_lines 0 (listing_of w d)
 
 -- how it ends
 abbrev pub status_of : Asked → List ℕ → Status
 status_of (Err Usage) input = status.Usage
 status_of (Err (Param fault)) input = status.Params
 status_of (Ok (Dual m)) input = if nat_lt input_limit (length input) then status.TooMuchInput else status.Done
+status_of (Ok (ListOf w d)) input = status.Done
 
 -- the replies to the lines that are whole in the bytes that were read
 abbrev pub replies_of : Asked → List ℕ → List ℕ
 replies_of (Err fault) seen = []
 replies_of (Ok (Dual m)) seen = answers (reply_of m) (cut seen).0
+replies_of (Ok (ListOf w d)) seen = []
 
 -- the commands that read lines from the source, and those that are lent a file
 abbrev pub ReadsLines : Asked → Type 0
 ReadsLines (Err fault) = ⊥
 ReadsLines (Ok (Dual m)) = Unit {0}
+ReadsLines (Ok (ListOf w d)) = ⊥
 
 abbrev pub NamesFile : Asked → Type 0
 NamesFile (Err fault) = ⊥
 NamesFile (Ok (Dual m)) = ⊥
+NamesFile (Ok (ListOf w d)) = ⊥
 
 -- a parameter test fails
 abbrev pub FailsTest : Asked → Type 0

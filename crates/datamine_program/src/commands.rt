@@ -10,6 +10,7 @@ ghost use Rattle.datamine_program.specs.declared.words.Command.TheVariants.{Dual
 ghost use Rattle.datamine_program.specs.declared.words.WordsFault.TheVariants.{Usage};
 
 use crate::dual::run_dual;
+use crate::list::run_list;
 use crate::refusals::{refuse_param, refuse_words};
 use crate::{Command, Status, WordsFault, read_words};
 use outside_io::{Disk, Sink, Source};
@@ -17,7 +18,8 @@ use std::alloc::Global;
 
 /// Does what the words behind the program's name ask for.
 ///
-/// `dual M` reads the source to its end, and writes one reply and the byte 10 for each line. `Usage` and `Params`
+/// `dual M` reads the source to its end, and writes one reply and the byte 10 for each line. `list W D` writes the names
+/// of the relations of weight W and depth at most D, one a line, with their numbers from 0. `Usage` and `Params`
 /// come exactly where the words fit no command or a parameter test fails, whatever memory there is; only a write
 /// that fails may come in their place. `DiskFault`, `ReadFault` and `WriteFault` come only where that object's
 /// count of faults rose in this call. What is written is a first part of the whole run's output: all of it unless
@@ -47,5 +49,6 @@ pub fn run<D: Disk, S: Source, K: Sink>(
         Err(WordsFault::Usage) => refuse_words(sink),
         Err(WordsFault::Param(fault)) => refuse_param(sink, fault),
         Ok(Command::Dual { modulus }) => run_dual(alloc, modulus, source, sink),
+        Ok(Command::List { weight, depth }) => run_list(alloc, weight, depth, sink),
     }
 }

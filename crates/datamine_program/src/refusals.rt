@@ -30,14 +30,25 @@ fn write_number<K: Sink>(sink: &mut K, text: &[u8], number: u64) -> Result<(), F
     write_both(sink, digits.format(number).as_bytes(), b"\n")
 }
 
+// The text and the number of the line that refuses a parameter.
+fn param_text(fault: ParamFault) -> (&'static [u8], u64)
+    ensures { result.0.now ++ (decimal result.1 ++ 10 ∷ []) ≡ param_line fault }
+{
+    match fault {
+        ParamFault::Weight(weight) => (b"bad parameter: weight ", weight),
+        ParamFault::Depth(depth) => (b"bad parameter: depth ", depth),
+        ParamFault::Modulus(modulus) => (b"bad parameter: modulus ", modulus),
+        ParamFault::Columns(columns) => (b"bad parameter: columns ", columns),
+    }
+}
+
 fn write_param<K: Sink>(sink: &mut K, fault: ParamFault) -> Result<(), Failed>
     ensures ok { OnOk result (K.taken sink.new ≡ after_told (K.taken sink.old) (param_line fault)) }
     ensures err { OnErr result (AppendsFront (K.taken sink.old) (K.taken sink.new) (param_line fault)) }
     ensures cause { HasCause (K.faults sink.old) (K.faults sink.new) result }
 {
-    match fault {
-        ParamFault::Modulus(modulus) => write_number(sink, b"bad parameter: modulus ", modulus),
-    }
+    let (text, number) = param_text(fault);
+    write_number(sink, text, number)
 }
 
 // Refuses words that fit no command.

@@ -1,7 +1,8 @@
 //! What the words of the command line ask for.
 ghost use Rattle.std.specs.Prelude.{◌≡◌, ◌==◌, map, string_bytes, slice_index, IfOk};
-ghost use Rattle.datamine_program.specs.Words.{asked, number_of, dual_of, IsInRange};
+ghost use Rattle.datamine_program.specs.Words.{asked, number_of, dual_of, list_of, tested_list, IsInRange};
 
+use column_order::{MAX_COLUMNS, count};
 use thiserror::Error;
 
 /// What is to be done.
@@ -9,14 +10,26 @@ use thiserror::Error;
 pub enum Command {
     /// To reply to lines by duality alone, modulo a number from 3 to 2^63 - 1.
     Dual { modulus: u64 },
+    /// To print the names of the relations of a weight from 2 to 24 and of at most a depth, which is from 1 to the
+    /// weight less 1.
+    List { weight: u32, depth: u32 },
 }
 
 /// A parameter that fails its test.
 #[derive(Clone, Copy, Debug, PartialEq, Eq, Error)]
 pub enum ParamFault {
+    /// The weight is not from 2 to 24.
+    #[error("weight {0}")]
+    Weight(u64),
+    /// The depth is not from 1 to the weight less 1.
+    #[error("depth {0}")]
+    Depth(u64),
     /// The modulus is not from 3 to 2^63 - 1.
     #[error("modulus {0}")]
     Modulus(u64),
+    /// The columns of weight and depth are more than 2,048.
+    #[error("columns {0}")]
+    Columns(u64),
 }
 
 /// Why the words ask for nothing.
@@ -59,19 +72,44 @@ fn dual(modulus: Option<u64>) -> Result<Command, WordsFault>
     }
 }
 
+fn tested_list(weight: u64, depth: u64) -> Result<Command, WordsFault>
+    ensures { result ≡ tested_list weight depth }
+{
+    if weight < 2 || weight > 24 {
+        return Err(WordsFault::Param(ParamFault::Weight(weight)));
+    }
+    if depth < 1 || depth >= weight {
+        return Err(WordsFault::Param(ParamFault::Depth(depth)));
+    }
+    let (weight, depth) = (weight as u32, depth as u32);
+    let columns = count(weight, depth);
+    if columns > MAX_COLUMNS {
+        return Err(WordsFault::Param(ParamFault::Columns(columns)));
+    }
+    Ok(Command::List { weight, depth })
+}
+
+fn list(weight: Option<u64>, depth: Option<u64>) -> Result<Command, WordsFault>
+    ensures { result ≡ list_of weight depth }
+{
+    match (weight, depth) {
+        (Some(weight), Some(depth)) => tested_list(weight, depth),
+        _ => Err(WordsFault::Usage),
+    }
+}
+
 /// What the words behind the program's name ask for. It takes no memory.
 ///
-/// `Usage` comes exactly where they fit no command, `Param` exactly where they do and a parameter test fails.
+/// `Usage` comes exactly where they fit no command, `Param` exactly where they do and a parameter test fails: the first.
 pub fn read_words(words: &[String]) -> Result<Command, WordsFault>
     ensures asked { result ≡ asked (map string_bytes words.now) }
     ensures in_range { IfOk result IsInRange }
 {
-    let [name, modulus] = words else {
-        return Err(WordsFault::Usage);
-    };
-    if name.as_bytes() == b"dual".as_slice() {
-        dual(number(modulus.as_str()))
-    } else {
-        Err(WordsFault::Usage)
+    match words {
+        [name, modulus] if name.as_bytes() == b"dual".as_slice() => dual(number(modulus.as_str())),
+        [name, weight, depth] if name.as_bytes() == b"list".as_slice() => {
+            list(number(weight.as_str()), number(depth.as_str()))
+        }
+        _ => Err(WordsFault::Usage),
     }
 }
