@@ -24,8 +24,8 @@ use Rattle.column_order.specs.declared.lead_order.Standing.{Standing}
 use Rattle.column_order.specs.LeadOrder.{lead_cmp}
 use Rattle.column_order.specs.Columns.{IsColumn, IsColumnList, column_count, binomial_sum}
 use Rattle.column_order.specs.Steps.{IsStanding, IsStood, AreOf, AreColumns, standing_cmp, column_cmp, monomials_of, words_behind}
-use Rattle.column_order.proofs.LeadLaws.{lead_cmp_total, lead_cmp-IsAntisymmetric, Leads-irreflexive}
-use Rattle.column_order.proofs.Distinct.{AllDistinct, AllDistinct-map, AllDistinct-from_map, AllDistinct-from_same, AllDistinct-from_sorted, AllDistinct-apart, Contains-map, Contains-from_map, length-le_from_within}
+use Rattle.column_order.proofs.LeadLaws.{lead_cmp_total, lead_cmp-IsAntisymmetric, Leads-irreflexive, Leads-trans}
+use Rattle.column_order.proofs.Distinct.{AllDistinct, AllDistinct-map, AllDistinct-from_map, AllDistinct-from_same, AllDistinct-from_sorted, AllDistinct-apart, Contains-map, Contains-from_map, length-le_from_within, same_sorted}
 use Rattle.column_order.proofs.ColumnWords.{IsAdmissibleOf, word_held, word_found, AllDistinct-words_behind, length-words_behind}
 
 -- the words of the columns
@@ -157,3 +157,7 @@ pub AreOf-next : (f : List Letter → ℕ) (ws : List (List Letter)) (i : ℕ) (
 AreOf-next f ws i w cs ds c h g of e m j s =
     let words : take (i + 1) ws ≡ take i ws ++ w ∷ [] = take_more ws i w h ∙ ap (λ t. take i ws ++ t ∷ []) (sym g) in
     subst (λ t. AreOf f t ds) (sym words) (subst (AreOf f (take i ws ++ w ∷ [])) (sym e) (AreOf-push f (take i ws) cs w c of m j s))
+
+pub one_list : (f : List Letter → ℕ) (w d : ℕ) (ps qs : List (List (List Letter))) → IsColumnList f w d ps → IsColumnList f w d qs → ps ≡ qs
+one_list f w d ps qs l m =
+    same_sorted (lead_cmp f) (Leads-irreflexive f) (Leads-trans f) ps qs l.in_order m.in_order (λ p c. (m.whole p).1 ((l.whole p).0 c)) (λ p c. (l.whole p).1 ((m.whole p).0 c))

@@ -1,5 +1,5 @@
 -- Lists without repeats: those with the same elements have the same length.
-use Rattle.std.proofs.Common.{◌≡◌, ℕ, ◌<◌, ◌≤◌, zero, suc, ◌⊎◌, inl, inr, List, [], ◌∷◌, ◌++◌, length, map, get_or, sym, ap, subst, arith, length-append}
+use Rattle.std.proofs.Common.{◌≡◌, ℕ, ◌<◌, ◌≤◌, zero, suc, ◌⊎◌, inl, inr, List, [], ◌∷◌, ◌++◌, length, map, get_or, sym, ap, subst, ◌∙◌, arith, length-append}
 use Rattle.std.specs.declared.cmp.Ordering.{Ordering}
 use Rattle.std.specs.declared.cmp.Ordering.TheVariants.{Less}
 use Rattle.std.specs.List.{Contains}
@@ -128,3 +128,21 @@ AllDistinct-from_sorted R n (x ∷ xs) s = (
   λ c. n x (All-contains (λ y. R x y ≡ Less) xs x (All-from_recursion (λ y. R x y ≡ Less) xs (sorted_head R x xs s)) c),
   AllDistinct-from_sorted R n xs (sorted_tail R x xs s),
 )
+
+after_head : {A : Type 0} (R : A → A → Ordering) (x : A) (xs : List A) (z : A) → IsStrictlySortedBy R (x ∷ xs) → Contains xs z → R x z ≡ Less
+after_head R x xs z s c = All-contains (λ y. R x y ≡ Less) xs z (All-from_recursion (λ y. R x y ≡ Less) xs (sorted_head R x xs s)) c
+
+-- two lists in one order with the same elements are one
+pub same_sorted : {A : Type 0} (R : A → A → Ordering) → ((x : A) → ¬ (R x x ≡ Less)) → ((x y z : A) → R x y ≡ Less → R y z ≡ Less → R x z ≡ Less) → (xs ys : List A) → IsStrictlySortedBy R xs → IsStrictlySortedBy R ys → ((z : A) → Contains xs z → Contains ys z) → ((z : A) → Contains ys z → Contains xs z) → xs ≡ ys
+same_sorted R n t [] [] s u f g = refl
+same_sorted R n t [] (y ∷ ys) s u f g = absurd (none_contained y (g y (Contains-head y ys)))
+same_sorted R n t (x ∷ xs) [] s u f g = absurd (none_contained x (f x (Contains-head x xs)))
+same_sorted R n t (x ∷ xs) (y ∷ ys) s u f g =
+    let head : x ≡ y = elim (Contains_cases y ys x (f x (Contains-head x xs))) [
+      | inl e ↦ sym e
+      | inr p ↦ elim (Contains_cases x xs y (g y (Contains-head y ys))) [ inl e ↦ e | inr q ↦ absurd (n x (t x y x (after_head R x xs y s q) (after_head R y ys x u p))) ]
+    ] in
+    let rest : xs ≡ ys = same_sorted R n t xs ys (sorted_tail R x xs s) (sorted_tail R y ys u)
+    (λ z c. elim (Contains_cases y ys z (f z (Contains-tail x xs z c))) [ inl e ↦ absurd (n z (subst (λ k. R k z ≡ Less) (head ∙ e) (after_head R x xs z s c))) | inr q ↦ q ])
+    (λ z c. elim (Contains_cases x xs z (g z (Contains-tail y ys z c))) [ inl e ↦ absurd (n z (subst (λ k. R k z ≡ Less) (sym head ∙ e) (after_head R y ys z u c))) | inr q ↦ q ]) in
+    λ i. head i ∷ rest i

@@ -122,6 +122,7 @@ fn too_many_columns_are_counted(rt: HostRuntime) -> Result<(), Fail> {
 #[test]
 fn monomials_lead_by_factors_ranks_depth_and_words(rt: HostRuntime) -> Result<(), Fail> {
     lead_order_laws();
+    column_list_laws();
     let lex = RankRule::new(Mode::Lex, |_word: Word| 0);
     let odd = RankRule::new(Mode::Odd, |word: Word| rank(Mode::Odd, word));
     // two words, and whether the first one's monomial leads in lex and in odd
