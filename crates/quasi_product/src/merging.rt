@@ -9,7 +9,7 @@ use std::alloc::{AllocError, Global};
 use std::cmp::Ordering;
 use word_letters::Word;
 
-/// Words with elements of a ring, in order of the words mostly. Contracts do not ask for the order: it keeps the lists short.
+/// Words with elements of a ring, in the order of the words. No contract speaks of the order: it keeps the lists short.
 pub(crate) type Terms<R> = Vec<(Word, <R as Ring>::Elem)>;
 
 /// The terms of `left` with `a` before their words and those of `right` with `b` before theirs. Of two lists in the order of

@@ -97,7 +97,7 @@ fn first_row<R: Ring>(
     ensures length { IfOk result (λ row. length row.items ≡ length suffixes.now) }
     ensures terms { IfOk result (λ row. IsFirstRow (λ cell. cell.items) c suffixes.now row.items) }
 {
-    let mut row = Vec::new(alloc);
+    let mut row = Vec::with_capacity(alloc, suffixes.len())?;
     for suffix in suffixes {
         row.push(one_term::<R>(alloc, suffix.word, c)?)?;
     }
@@ -108,7 +108,7 @@ fn first_row<R: Ring>(
 fn one_term<R: Ring>(alloc: Global, word: Word, c: R::Elem) -> Result<Terms<R>, AllocError>
     ensures { IfOk result (λ terms. terms.items ≡ (word, c) ∷ []) }
 {
-    let mut terms = Vec::new(alloc);
+    let mut terms = Vec::with_capacity(alloc, 1)?;
     terms.push((word, c))?;
     Ok(terms)
 }
@@ -131,7 +131,7 @@ fn next_row<L: Letters, R: Ring>(
     ensures length { IfOk result (λ row. length row.items ≡ length suffixes.now) }
     ensures row { IfOk result (λ row. IsRow (λ cell. cell.items) (R.has ring.now) (R.value ring.now) (R.modulus ring.now) (R.value ring.now c) L.alphabet u.now.word suffixes.now row.items) }
 {
-    let mut row = Vec::new(alloc);
+    let mut row = Vec::with_capacity(alloc, suffixes.len())?;
     for _i in 0..suffixes.len() {
         let cell = next_cell::<L, R>(alloc, ring, c, u, suffixes, below, row.as_slice())?;
         row.push(cell)?;

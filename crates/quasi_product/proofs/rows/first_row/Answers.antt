@@ -4,7 +4,7 @@ use Rattle.quasi_product.proofs.RowLemmas.{IsFirstRow-none, IsFirstRow-push}
 use Rattle.quasi_product.proofs.rows.first_row.Goals as goal
 
 pub loop-suffix-init : goal.loop-suffix-init
-loop-suffix-init g c = (ap length c.new-row.ensures.items, IsFirstRow-none (λ cell. cell.items) c.args.c c.args.suffixes.now c.new-row.result.items c.new-row.ensures.items)
+loop-suffix-init g c = (ap length c.in_ok-row.ensures.items, IsFirstRow-none (λ cell. cell.items) c.args.c c.args.suffixes.now c.in_ok-row.row.items c.in_ok-row.ensures.items)
 
 pub loop-suffix-preserved : goal.loop-suffix-preserved
 loop-suffix-preserved g c = (

@@ -8,7 +8,7 @@ use Rattle.quasi_product.proofs.RowLemmas.{IsRow-none, IsRow-push}
 use Rattle.quasi_product.proofs.rows.next_row.Goals as goal
 
 pub loop-i-init : goal.loop-i-init
-loop-i-init g c = (ap length c.new-row.ensures.items, IsRow-none (λ cell. cell.items) (g.R.Ring.has c.args.ring.now) (g.R.Ring.value c.args.ring.now) (g.R.Ring.modulus c.args.ring.now) (g.R.Ring.value c.args.ring.now c.args.c) g.L.Letters.alphabet c.args.u.now.word c.args.suffixes.now c.new-row.result.items c.new-row.ensures.items)
+loop-i-init g c = (ap length c.in_ok-row.ensures.items, IsRow-none (λ cell. cell.items) (g.R.Ring.has c.args.ring.now) (g.R.Ring.value c.args.ring.now) (g.R.Ring.modulus c.args.ring.now) (g.R.Ring.value c.args.ring.now c.args.c) g.L.Letters.alphabet c.args.u.now.word c.args.suffixes.now c.in_ok-row.row.items c.in_ok-row.ensures.items)
 
 pub loop-i-preserved : goal.loop-i-preserved
 loop-i-preserved g c = (
