@@ -23,7 +23,7 @@ use Rattle.column_order.specs.declared.column.Column.{Column}
 use Rattle.column_order.specs.declared.lead_order.Standing.{Standing}
 use Rattle.column_order.specs.LeadOrder.{lead_cmp}
 use Rattle.column_order.specs.Columns.{IsColumn, IsColumnList, column_count, binomial_sum}
-use Rattle.column_order.specs.Steps.{IsStanding, IsStood, AreOf, AreColumns, standing_cmp, column_cmp, monomials_of, words_behind}
+use Rattle.column_order.specs.Steps.{IsStanding, HasStanding, AreOf, AreColumns, standing_cmp, column_cmp, monomials_of, words_behind}
 use Rattle.column_order.proofs.LeadLaws.{lead_cmp_total, lead_cmp-IsAntisymmetric, Leads-irreflexive, Leads-trans}
 use Rattle.column_order.proofs.Distinct.{AllDistinct, AllDistinct-map, AllDistinct-from_map, AllDistinct-from_same, AllDistinct-from_sorted, AllDistinct-apart, Contains-map, Contains-from_map, length-le_from_within, same_sorted}
 use Rattle.column_order.proofs.ColumnWords.{IsAdmissibleOf, word_held, word_found, AllDistinct-words_behind, length-words_behind}
@@ -100,13 +100,13 @@ strictly f p q h n = go (lead_cmp f p q) refl
     go Equal e = absurd (n (lead_cmp-IsAntisymmetric f p q e))
     go Greater e = let less : lead_cmp f q p ≡ Less = o.antisymm q p ∙ ap ordering_reverse e in let l : is_lt (lead_cmp f q p) ≡ true = ap is_lt less in cc
 
-AllMonomial-stood : (f : List Letter → ℕ) (cs : List Column) → All (IsStood f) cs → All IsMonomial (monomials_of cs)
-AllMonomial-stood f cs all = All-map IsMonomial (λ c. c.monomial) cs (All-weaker (IsStood f) (λ c. IsMonomial c.monomial) (λ c s. s.monomial) cs all)
+AllMonomial-stood : (f : List Letter → ℕ) (cs : List Column) → All (HasStanding f) cs → All IsMonomial (monomials_of cs)
+AllMonomial-stood f cs all = All-map IsMonomial (λ c. c.monomial) cs (All-weaker (HasStanding f) (λ c. IsMonomial c.monomial) (λ c s. s.monomial) cs all)
 
 no_column : Column
 no_column = record { monomial = []; standing = record { ranks = 0; depth = 0 } }
 
-in_order : (f : List Letter → ℕ) (es : List Column) → All (IsStood f) es → AllDistinct (monomials_of es) → IsSorted column_cmp es → IsStrictlySortedBy (lead_cmp f) (monomials_of es)
+in_order : (f : List Letter → ℕ) (es : List Column) → All (HasStanding f) es → AllDistinct (monomials_of es) → IsSorted column_cmp es → IsStrictlySortedBy (lead_cmp f) (monomials_of es)
 in_order f es stood distinct sorted = sorted_from_all_adjacent (lead_cmp_total f) (monomials_of es) [] adjacent
   where
     at : (k : ℕ) → k < length es → get_or (monomials_of es) k [] ≡ (get_or es k no_column).monomial
@@ -117,8 +117,8 @@ in_order f es stood distinct sorted = sorted_from_all_adjacent (lead_cmp_total f
         let long : k + 1 < length es = omega (arith, length-map es (λ (c : Column). c.monomial)) in
         let a : Column = get_or es k no_column in
         let b : Column = get_or es (k + 1) no_column in
-        let sa : IsStood f a = All-get_or (IsStood f) es k no_column (omega arith) stood in
-        let sb : IsStood f b = All-get_or (IsStood f) es (k + 1) no_column long stood in
+        let sa : HasStanding f a = All-get_or (HasStanding f) es k no_column (omega arith) stood in
+        let sb : HasStanding f b = All-get_or (HasStanding f) es (k + 1) no_column long stood in
         let back : is_lt (lead_cmp f b.monomial a.monomial) ≡ false = ap is_lt (sym (standing_cmp-stands f b.monomial a.monomial b.standing a.standing sb.standing sa.standing)) ∙ sorted k no_column (omega arith) long in
         let apart : ¬ (a.monomial ≡ b.monomial) = λ e. AllDistinct-apart (monomials_of es) k (k + 1) [] distinct (omega arith) h (at k (omega arith) ∙ e ∙ sym (at (k + 1) long)) in
         (λ i. lead_cmp f (at k (omega arith) i) (at (k + 1) long i)) ∙ strictly f a.monomial b.monomial back apart
@@ -130,7 +130,7 @@ AreColumns-sorted f w d cs es h g of moved sorted =
     let qs : List (List (List Letter)) = monomials_of es in
     let moved_monomials : IsPermutation ps qs = IsPermutation-map (λ (c : Column). c.monomial) cs es moved in
     let back : IsPermutation qs ps = IsPermutation-sym ps qs moved_monomials in
-    let stood : All (IsStood f) es = All-permutation (IsStood f) cs es moved of.stood in
+    let stood : All (HasStanding f) es = All-permutation (HasStanding f) cs es moved of.stood in
     let apart : AllDistinct ps = AllDistinct-from_map joined ps (subst AllDistinct (sym of.words) (AllDistinct-words_behind (w - 2) (d - 1) (X ∷ []))) in
     let distinct : AllDistinct qs = AllDistinct-from_same qs ps apart (omega (arith, length_permutation ps qs moved_monomials)) (λ p c. Contains-permutation qs ps p back c) (λ p c. Contains-permutation ps qs p moved_monomials c) in
     let whole : (p : List (List Letter)) → Contains ps p ↔ IsColumn w d p = monomials_whole w d ps h g of.words (AllMonomial-stood f cs of.stood) in
@@ -146,7 +146,7 @@ AreColumns-sorted f w d cs es h g of moved sorted =
 AreOf-push : (f : List Letter → ℕ) (ws : List (List Letter)) (cs : List Column) (w : List Letter) (c : Column) → AreOf f ws cs → IsMonomial c.monomial → joined c.monomial ≡ w → IsStanding f c.monomial c.standing → AreOf f (ws ++ w ∷ []) (cs ++ c ∷ [])
 AreOf-push f ws cs w c of m e s = record {
   words = ap (map joined) (map-append (λ (c : Column). c.monomial) cs (c ∷ [])) ∙ map-append joined (monomials_of cs) (c.monomial ∷ []) ∙ (λ i. of.words i ++ e i ∷ []);
-  stood = All-push (IsStood f) cs c of.stood (record { monomial = m; standing = s });
+  stood = All-push (HasStanding f) cs c of.stood (record { monomial = m; standing = s });
 }
 
 pub word_at : (xs ys : List (List Letter)) (i : ℕ) (w : List Letter) → xs ≡ ys → i < length xs → w ≡ get_or xs i w → Contains ys w

@@ -27,16 +27,16 @@ Contains_cases y xs x c = elim (Contains-append_cases (y ∷ []) xs x c) [
 ]
 
 -- where x stands in the list
-record Standing_at {A : Type 0} (xs : List A) (x : A) : Type 0 where
+record Occurrence {A : Type 0} (xs : List A) (x : A) : Type 0 where
   front : List A
   back : List A
   is : xs ≡ front ++ x ∷ back
 
-standing_at : {A : Type 0} (xs : List A) (x : A) → Contains xs x → Standing_at xs x
-standing_at [] x c = absurd (none_contained x c)
-standing_at (y ∷ xs) x c = elim (Contains_cases y xs x c) [
+occurrence : {A : Type 0} (xs : List A) (x : A) → Contains xs x → Occurrence xs x
+occurrence [] x c = absurd (none_contained x c)
+occurrence (y ∷ xs) x c = elim (Contains_cases y xs x c) [
   | inl e ↦ record { front = []; back = xs; is = λ i. e i ∷ xs }
-  | inr q ↦ let s : Standing_at xs x = standing_at xs x q in record { front = y ∷ s.front; back = s.back; is = λ i. y ∷ s.is i }
+  | inr q ↦ let s : Occurrence xs x = occurrence xs x q in record { front = y ∷ s.front; back = s.back; is = λ i. y ∷ s.is i }
 ]
 
 without : {A : Type 0} (front back : List A) (x z : A) → Contains (front ++ x ∷ back) z → ¬ (x ≡ z) → Contains (front ++ back) z
@@ -54,7 +54,7 @@ within front back x z c = elim (Contains-append_cases front back z c) [
 pub length-le_from_within : {A : Type 0} (xs ys : List A) → AllDistinct xs → ((z : A) → Contains xs z → Contains ys z) → length xs ≤ length ys
 length-le_from_within [] ys d f = omega arith
 length-le_from_within (x ∷ xs) ys d f =
-    let s : Standing_at ys x = standing_at ys x (f x (Contains-head x xs)) in
+    let s : Occurrence ys x = occurrence ys x (f x (Contains-head x xs)) in
     let rest : length xs ≤ length (s.front ++ s.back) = length-le_from_within xs (s.front ++ s.back) d.1 (λ z c. without s.front s.back x z (subst (λ t. Contains t z) s.is (f z (Contains-tail x xs z c))) (λ e. d.0 (subst (Contains xs) (sym e) c))) in
     omega (arith, ap length s.is, length-append s.front (x ∷ s.back), length-append s.front s.back)
 
@@ -74,7 +74,7 @@ pub AllDistinct-from_same : {A : Type 0} (xs ys : List A) → AllDistinct ys →
 AllDistinct-from_same [] ys d h f g = tt
 AllDistinct-from_same (x ∷ xs) ys d h f g =
     let fresh : ¬ (Contains xs x) = λ c. absurd (omega (arith, length-le_from_within ys xs d (λ z p. elim (Contains_cases x xs z (g z p)) [ inl e ↦ subst (Contains xs) e c | inr q ↦ q ]))) in
-    let s : Standing_at ys x = standing_at ys x (f x (Contains-head x xs)) in
+    let s : Occurrence ys x = occurrence ys x (f x (Contains-head x xs)) in
     let there : AllDistinct (s.front ++ x ∷ s.back) = subst AllDistinct s.is d in (
       fresh,
       AllDistinct-from_same xs (s.front ++ s.back) (AllDistinct-without s.front s.back x there)

@@ -21,7 +21,7 @@ use Rattle.column_order.specs.Columns.{IsColumnList}
 use Rattle.column_order.proofs.ColumnLists.{standing_cmp-stands}
 use Rattle.column_order.specs.declared.column.Column.{Column}
 use Rattle.column_order.specs.LeadOrder.{lead_cmp}
-use Rattle.column_order.specs.Steps.{IsStanding, IsStood, AreColumns, standing_cmp, monomials_of}
+use Rattle.column_order.specs.Steps.{IsStanding, HasStanding, AreColumns, standing_cmp, monomials_of}
 use Rattle.column_order.proofs.LeadLaws.{lead_cmp_total, lead_cmp-IsAntisymmetric, Leads-irreflexive}
 
 pub place_of : (ps : List (List (List Letter))) (p : List (List Letter)) → Contains ps p → (i : ℕ) × (i < length ps) × (slice_get ps i ≡ Some p)
@@ -83,7 +83,7 @@ pub record Compares (f : List Letter → ℕ) (es : List Column) (j : ℕ) (p : 
 pub compares : (f g : List Letter → ℕ) (w d : ℕ) (es : List Column) (j : ℕ) (c : Column) (p : List (List Letter)) (t : Standing) (o r : Ordering) → AreColumns f w d es → j < length es → c ≡ get_or es j c → IsStanding g p t → g ≡ f → r ≡ standing_cmp c.monomial c.standing p t → r ≡ o → Compares f es j p o
 compares f g w d es j c p t o r a h e s same is known =
     let l : IsColumnList f w d (monomials_of es) = a.list in
-    let stood : IsStood f c = subst (IsStood f) (sym e) (All-get_or (IsStood f) es j c h a.stood) in
+    let stood : HasStanding f c = subst (HasStanding f) (sym e) (All-get_or (HasStanding f) es j c h a.stood) in
     record {
       sorted = l.in_order;
       column = c;

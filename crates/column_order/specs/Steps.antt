@@ -31,7 +31,7 @@ abbrev pub column_cmp : Column → Column → Ordering
 column_cmp a b = standing_cmp a.monomial a.standing b.monomial b.standing
 
 -- a monomial with its own standing
-pub record IsStood (f : List Letter → ℕ) (c : Column) : Type 0 where
+pub record HasStanding (f : List Letter → ℕ) (c : Column) : Type 0 where
   pub monomial : IsMonomial c.monomial
   pub standing : IsStanding f c.monomial c.standing
 
@@ -47,9 +47,9 @@ words_behind f (suc n) (suc d) = words_behind (f ++ X ∷ []) n (suc d) ++ words
 -- the columns are the monomials of the words, one for each
 pub record AreOf (f : List Letter → ℕ) (ws : List (List Letter)) (cs : List Column) : Type 0 where
   pub words : map joined (monomials_of cs) ≡ ws
-  pub stood : All (IsStood f) cs
+  pub stood : All (HasStanding f) cs
 
 -- the columns of weight w and depth at most d, in lead order
 pub record AreColumns (f : List Letter → ℕ) (w d : ℕ) (cs : List Column) : Type 0 where
   pub list : IsColumnList f w d (monomials_of cs)
-  pub stood : All (IsStood f) cs
+  pub stood : All (HasStanding f) cs
