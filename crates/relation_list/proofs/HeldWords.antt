@@ -1,35 +1,29 @@
 -- The words of a sum, from its coefficients.
-use Rattle.std.proofs.Common.{◌≡◌, ◌≢◌, ℕ, ◌+◌, ◌%◌, ◌<◌, ◌≤◌, ◌⊎◌, inl, inr, zero, suc, eqb, Bool, true, false, not, cond, List, length, Contains, All, refl, sym, ap, ◌∙◌, arith}
+use Rattle.std.proofs.Common.{◌≡◌, ◌≢◌, ℕ, ◌+◌, ◌%◌, ◌<◌, ◌≤◌, zero, suc, Bool, true, not, List, length, Contains, All, sym, ap, ◌∙◌, arith}
 use Rattle.std.specs.Map.{keys_of}
-use Rattle.std.proofs.lemmas.Bool.Decides.{eqb_tells}
 use Rattle.std.proofs.lemmas.List.Elements.{All-weaker, All-contains, All-contains_itself}
 use Rattle.std.proofs.Math.Nat.{zero-mod}
 use Rattle.zeta_model.specs.declared.Letter.{Letter}
 use Rattle.zeta_model.specs.Words.{has_index}
 use Rattle.zeta_model.specs.Alphabets.{stuffle_alphabet, stuffle_of}
-use Rattle.zeta_model.specs.Sums.{Sum, same_word, single, sum_of}
+use Rattle.zeta_model.specs.Sums.{Sum, single, sum_of}
 use Rattle.zeta_model.proofs.ProductWords.{prod-covered}
 use Rattle.zeta_model.proofs.StuffleLetters.{stuffle_laws}
-use Rattle.zeta_model.proofs.WordOrder.{same_word-one}
 use Rattle.word_sums.specs.Terms.{coefficient_of, IsTerms, AllIn}
 use Rattle.word_sums.proofs.KnownTerms.{held}
 use Rattle.quasi_product.specs.SumProducts.{IsGreatestWeight}
 use Rattle.regularise_core.specs.Outside.{outside_h1, IsLeast}
 use Rattle.relation_list.specs.declared.names.Direct.{Direct}
-use Rattle.relation_list.specs.Names.{direct_weight_of, is_direct}
-use Rattle.relation_list.specs.Values.{direct_value_of}
+use Rattle.relation_list.specs.declared.names.RelName.{RelName}
+use Rattle.relation_list.specs.Names.{direct_weight_of, is_direct, is_name_of}
+use Rattle.relation_list.specs.Values.{direct_value_of, value_of, IsWordOf}
 use Rattle.relation_list.proofs.Members.{from-filter}
-use Rattle.relation_list.proofs.ValueLemmas.{direct_value_of-none}
+use Rattle.relation_list.proofs.ProductWords.{single-some}
+use Rattle.relation_list.proofs.ValueLemmas.{direct_value_of-weight}
+use Rattle.relation_list.proofs.ValueWords.{value_of-words}
 
 abbrev Word : Type 0
 Word = List Letter
-
-single-some : (u t : Word) → 0 < single u t → t ≡ u
-single-some u t h = by (same_word t u) refl h
-  where
-    by : (b : Bool) → same_word t u ≡ b → 0 < cond b 1 0 → t ≡ u
-    by true e h = same_word-one t u e
-    by false e h = absurd (omega arith)
 
 module _ {E : Type 0} (m : ℕ) (pos : 0 < m) (value : E → ℕ) (none : E) (has : E → Bool) (has_zero : has none ≡ true) (value_zero : value none ≡ 0) (value_injective : (a b : E) → has a ≡ true → has b ≡ true → value a ≡ value b → a ≡ b)
     (terms : List (Word × E)) (is : IsTerms none terms) (all : AllIn has terms) (s : Sum) (counts : (t : Word) → coefficient_of value terms t ≡ s t % m) where
@@ -43,11 +37,7 @@ module _ {E : Type 0} (m : ℕ) (pos : 0 < m) (value : E → ℕ) (none : E) (ha
 
   -- the value of a direct name: its words have the weight of the name
   pub value_words : (r : Direct) → is_direct r ≡ true → ((t : Word) → s t ≡ direct_value_of m r t) → (n : ℕ) → direct_weight_of r + n ≤ 24 → All (λ w. length w + n ≤ 24) (keys_of terms)
-  value_words r h same n fits = All-weaker (Contains (keys_of terms)) (λ w. length w + n ≤ 24) (λ w c. short w (counted w c) (eqb_tells (length w) (direct_weight_of r))) (keys_of terms) (All-contains_itself (keys_of terms))
-    where
-      short : (w : Word) → 0 < s w → ((eqb (length w) (direct_weight_of r) ≡ true) × (length w ≡ direct_weight_of r)) ⊎ ((eqb (length w) (direct_weight_of r) ≡ false) × (length w ≢ direct_weight_of r)) → length w + n ≤ 24
-      short w p (inl q) = omega (arith, q.1)
-      short w p (inr q) = absurd (omega (arith, p, same w, direct_value_of-none m r h w q.1))
+  value_words r h same n fits = All-weaker (Contains (keys_of terms)) (λ w. length w + n ≤ 24) (λ w c. omega (arith, direct_value_of-weight m r h w (omega (arith, counted w c, same w)))) (keys_of terms) (All-contains_itself (keys_of terms))
 
   -- a stuffle: its words have an index
   pub stuffle_words : (u v : Word) → has_index u ≡ true → has_index v ≡ true → ((t : Word) → s t ≡ sum_of (stuffle_of u v) t) → (w : Word) → IsLeast (outside_h1 terms) w → ⊥
@@ -71,3 +61,7 @@ module _ {E : Type 0} (m : ℕ) (pos : 0 < m) (value : E → ℕ) (none : E) (ha
       let short : length v + length u ≤ 24 = All-contains (λ w. length w + length u ≤ 24) (keys_of firsts) v fits g.reached.2 in
       let one : w ≡ u = one_word u same w g.reached.3 in
       omega (arith, short, ap length one, g.reached.4)
+
+  -- the value of a name
+  pub name_words : (n : RelName) → is_name_of n ≡ true → ((t : Word) → s t ≡ value_of m n t) → All (IsWordOf n) (keys_of terms)
+  name_words n h same = All-weaker (Contains (keys_of terms)) (IsWordOf n) (λ w c. value_of-words m n w h (omega (arith, counted w c, same w))) (keys_of terms) (All-contains_itself (keys_of terms))

@@ -4,5 +4,8 @@ pub mod WordListLemmas
 pub mod ListingLemmas
 pub mod Members
 pub mod WholeListing
+pub mod OnceListing
 pub mod ValueLemmas
 pub mod HeldWords
+pub mod ProductWords
+pub mod ValueWords

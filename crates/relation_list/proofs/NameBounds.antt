@@ -10,7 +10,7 @@ use Rattle.relation_list.specs.declared.names.Direct.{Direct}
 use Rattle.relation_list.specs.declared.names.Direct.TheVariants.{Fin, Reg, Dual}
 use Rattle.relation_list.specs.declared.names.RelName.{RelName}
 use Rattle.relation_list.specs.declared.names.RelName.TheVariants.{Plain, Prod}
-use Rattle.relation_list.specs.Names.{in_order, direct_weight_of, weight_of_name, direct_depth_of, depth_of_name, is_direct, is_formed, is_name_of}
+use Rattle.relation_list.specs.Names.{in_order, below_dual, direct_weight_of, weight_of_name, direct_depth_of, depth_of_name, is_direct, is_formed, is_name_of}
 
 pub depth_of-le : (w : List Letter) → depth_of w ≤ length w
 depth_of-le w = count_by-le-length is_y w
@@ -66,3 +66,11 @@ reg-parts r m v h e =
   where
     above : (m : ℕ) → nat_lt 0 m ≡ true → 0 < m
     above m h = grind (arith, nat_tests)
+
+pub dual-parts : (r : Direct) (u : List Letter) → is_direct r ≡ true → r ≡ Dual u → (is_admissible u ≡ true) × (below_dual u ≡ true)
+dual-parts r u h e =
+    let f : is_direct (Dual u) ≡ true = ap is_direct (sym e) ∙ h in
+    (both_first (is_admissible u) (below_dual u) f, both_second (is_admissible u) (below_dual u) f)
+
+pub plain-direct : (n : RelName) (r : Direct) → is_name_of n ≡ true → n ≡ Plain r → is_direct r ≡ true
+plain-direct n r h e = both_first (is_direct r) (nat_le (direct_weight_of r) 24) (ap is_name_of (sym e) ∙ h)

@@ -101,6 +101,13 @@ direct_value_of-none m (Dual u) h t other =
     (single-other u t (λ e. other (ap length e)))
     (single-other (dual_of u) t (λ e. other (ap length e ∙ length-dual_of u)))
 
+pub direct_value_of-weight : (m : ℕ) (r : Direct) → is_direct r ≡ true → (t : Word) → 0 < direct_value_of m r t → length t ≡ direct_weight_of r
+direct_value_of-weight m r h t p = by (eqb_tells (length t) (direct_weight_of r))
+  where
+    by : ((eqb (length t) (direct_weight_of r) ≡ true) × (length t ≡ direct_weight_of r)) ⊎ ((eqb (length t) (direct_weight_of r) ≡ false) × (length t ≢ direct_weight_of r)) → length t ≡ direct_weight_of r
+    by (inl q) = q.1
+    by (inr q) = absurd (omega (arith, p, direct_value_of-none m r h t q.1))
+
 total-replicate : (f : Word → ℕ) (n : ℕ) (w : Word) → total f (replicate n w) ≡ n * f w
 total-replicate f zero w = omega arith
 total-replicate f (suc n) w =

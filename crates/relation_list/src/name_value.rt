@@ -11,7 +11,7 @@ ghost use Rattle.zeta_model.specs.Sums.{single, sum_of, continued};
 ghost use Rattle.zeta_model.specs.Regularise.{y_word as y_word_of};
 ghost use Rattle.relation_list.specs.declared.names.Direct.TheVariants.{Fin, Reg, Dual};
 ghost use Rattle.relation_list.specs.Names.{direct_weight_of, is_direct, is_name_of};
-ghost use Rattle.relation_list.specs.Values.{direct_value_of, value_of};
+ghost use Rattle.relation_list.specs.Values.{direct_value_of, value_of, IsWordOf};
 
 use crate::names::{Direct, RelName};
 use duality_map::dual;
@@ -23,8 +23,22 @@ use word_letters::{Letter, Word};
 use word_sums::WordSum;
 
 /// The value of a name: the shuffle of two words less their stuffle, the regularised stuffle of a power of y with a word, a word less
-/// its dual, or the shuffle of one of these with a word (Ihara, Kaneko and Zagier 2006).
+/// its dual, or the shuffle of one of these with a word (Ihara, Kaneko and Zagier 2006). It is a sum of admissible words.
 pub fn value<R: Ring>(alloc: Global, ring: &R, name: &RelName) -> Result<WordSum<R>, AllocError>
+    requires { IsTrue (is_name_of name.now) }
+    ensures value { IfOk result (λ sum. (t : List Letter) → coefficient_of (R.value ring.now) sum t
+        ≡ value_of (R.modulus ring.now) name.now t % R.modulus ring.now) }
+    ensures words { IfOk result (λ sum. All (IsWordOf name.now) (keys_of sum)) }
+    ensures in_ring { IfOk result (λ sum. AllIn (R.has ring.now) sum) }
+{
+    let sum = summed(alloc, ring, name)?;
+    // The length tells that no term is zero: so the words of the sum are words of the value.
+    let _ = sum.len();
+    Ok(sum)
+}
+
+/// The value of a name by its kind.
+fn summed<R: Ring>(alloc: Global, ring: &R, name: &RelName) -> Result<WordSum<R>, AllocError>
     requires { IsTrue (is_name_of name.now) }
     ensures value { IfOk result (λ sum. (t : List Letter) → coefficient_of (R.value ring.now) sum t
         ≡ value_of (R.modulus ring.now) name.now t % R.modulus ring.now) }

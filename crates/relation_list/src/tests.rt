@@ -165,6 +165,7 @@ fn names_have_depths_and_other_words_make_none(rt: HostRuntime) {
 
 #[test]
 fn names_have_values(rt: HostRuntime) -> Result<(), Fail> {
+    value_laws();
     let ring = WordMod::new(101)?;
     // what it is printed as, the name, and the terms of its value modulo 101
     let table: [(&str, RelName, &[(u64, &[u32])]); 6] = [

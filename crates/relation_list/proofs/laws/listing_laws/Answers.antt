@@ -1,4 +1,5 @@
-use Rattle.relation_list.proofs.WholeListing.{listing_of-whole, listing_of-once}
+use Rattle.relation_list.proofs.OnceListing.{listing_of-once}
+use Rattle.relation_list.proofs.WholeListing.{listing_of-whole}
 use Rattle.relation_list.proofs.laws.listing_laws.Goals as goal
 
 pub returns-clause-whole : goal.returns-clause-whole
