@@ -3,6 +3,7 @@ ghost use Rattle.std.specs.Prelude.{◌≡◌, ℕ, ◌+◌, ◌<◌, ◌≤◌,
 ghost use Rattle.dual_reply.specs.Reading.{at, next_at, after_letter, after_number, before_number, in_number, closed, terms_of, accepted_word};
 
 use crate::place::{Place, after_sign, after_start, after_zeta, is_blank};
+use smallvec::SmallVec;
 use std::alloc::{AllocError, Global};
 use word_letters::Word;
 
@@ -16,7 +17,7 @@ pub struct Signed {
 /// What has been read: the numbers of the last index, and the terms.
 #[derive(Drop)]
 struct Reader {
-    index: Vec<u32>,
+    index: SmallVec<u32, 24>,
     terms: Vec<Signed>,
 }
 
@@ -117,7 +118,7 @@ pub fn terms_of(alloc: Global, line: &[u8]) -> Result<Option<Vec<Signed>>, Alloc
         return Ok(None);
     }
     let mut reader = Reader {
-        index: Vec::new(alloc),
+        index: SmallVec::new(alloc),
         terms: Vec::new(alloc),
     };
     let mut place = Place::Start;
