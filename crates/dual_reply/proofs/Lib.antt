@@ -8,6 +8,7 @@ pub mod ListingLaws
 pub mod ListingOrder
 pub mod FoldedTerms
 pub mod TextLemmas
+pub mod KeptLemmas
 pub mod FoldLemmas
 pub mod TextLaws
 pub mod AcceptedLines

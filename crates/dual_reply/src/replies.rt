@@ -1,5 +1,5 @@
 //! The reply to a line, and what the replies tell.
-ghost use Rattle.std.specs.Prelude.{◌≡◌, ℕ, ◌^◌, ◌<◌, ◌≤◌, ◌++◌, OnOk, OnErr, IfOk};
+ghost use Rattle.std.specs.Prelude.{◌≡◌, ℕ, ◌^◌, ◌<◌, ◌≤◌, ◌++◌, length, take, OnOk, OnErr};
 ghost use Rattle.dual_reply.specs.Canonical.{IsCanonical, IsExact, IsFolded, IsTold};
 ghost use Rattle.dual_reply.specs.Reply.{reply_of};
 
@@ -8,20 +8,19 @@ use crate::reader::terms_of;
 use crate::text::push_text;
 use std::alloc::{AllocError, Global};
 
-/// The text of the reply to a line.
-fn reply_text(alloc: Global, modulus: u64, line: &[u8]) -> Result<Vec<u8>, AllocError>
+/// Adds the reply to a line. After want of memory some of its bytes may have been added.
+fn push_reply(alloc: Global, modulus: u64, line: &[u8], out: &mut Vec<u8>) -> Result<(), AllocError>
     requires from { 3 ≤ modulus }
     requires below { modulus < 2 ^ 63 }
-    ensures { IfOk result (λ text. text.items ≡ reply_of modulus line.now) }
+    ensures ok { OnOk result (out.new.items ≡ out.old.items ++ reply_of modulus line.now) }
+    ensures kept { take (length out.old.items) out.new.items ≡ out.old.items }
 {
     match terms_of(alloc, line)? {
         Some(terms) => {
             let entries = listing_of(alloc, modulus, &terms)?;
-            let mut text = Vec::new(alloc);
-            push_text(&mut text, &entries)?;
-            Ok(text)
+            push_text(out, &entries)
         }
-        None => Vec::from_slice(alloc, b"refused"),
+        None => out.extend_from_slice(b"refused"),
     }
 }
 
@@ -38,9 +37,12 @@ pub fn reply(alloc: Global, modulus: u64, line: &[u8], out: &mut Vec<u8>) -> Res
     ensures ok { OnOk result (out.new.items ≡ out.old.items ++ reply_of modulus line.now) }
     ensures err { OnErr result (out.new.items ≡ out.old.items) }
 {
-    let text = reply_text(alloc, modulus, line)?;
-    out.extend_from_slice(&text)?;
-    Ok(())
+    let before = out.len();
+    let added = push_reply(alloc, modulus, line, out);
+    if added.is_err() {
+        out.truncate(before);
+    }
+    added
 }
 
 /// What the replies tell, for every modulus of `reply`.

@@ -1,5 +1,5 @@
 //! The text of a sum.
-ghost use Rattle.std.specs.Prelude.{◌≡◌, ℕ, ◌+◌, ◌++◌, List, map, OnOk};
+ghost use Rattle.std.specs.Prelude.{◌≡◌, ℕ, ◌+◌, ◌++◌, List, length, map, take, OnOk};
 ghost use Rattle.std.specs.List.{join_with_byte};
 ghost use Rattle.std.specs.Fmt.{decimal};
 ghost use Rattle.zeta_model.specs.Indices.{index_of, word_text};
@@ -11,15 +11,21 @@ use word_letters::{Letter, Word};
 
 /// Adds a number in decimal.
 fn push_number(out: &mut Vec<u8>, number: u64) -> Result<(), AllocError>
-    ensures { OnOk result (out.new.items ≡ out.old.items ++ decimal number) }
+    ensures ok { OnOk result (out.new.items ≡ out.old.items ++ decimal number) }
+    ensures kept { take (length out.old.items) out.new.items ≡ out.old.items }
 {
+    if number < 10 {
+        out.push(b'0' + number as u8)?;
+        return Ok(());
+    }
     let mut buffer = Buffer::new();
     out.extend_from_slice(buffer.format(number).as_bytes())
 }
 
 /// Adds a number of an index, behind a comma where it is not the first.
 fn push_part(out: &mut Vec<u8>, first: bool, number: u32) -> Result<(), AllocError>
-    ensures { OnOk result (out.new.items ≡ out.old.items ++ behind_byte 44 first (decimal number)) }
+    ensures ok { OnOk result (out.new.items ≡ out.old.items ++ behind_byte 44 first (decimal number)) }
+    ensures kept { take (length out.old.items) out.new.items ≡ out.old.items }
 {
     if !first {
         out.push(b',')?;
@@ -29,7 +35,8 @@ fn push_part(out: &mut Vec<u8>, first: bool, number: u32) -> Result<(), AllocErr
 
 /// Adds the numbers of the index of a word, with commas between them.
 fn push_index(out: &mut Vec<u8>, word: &Word) -> Result<(), AllocError>
-    ensures { OnOk result (out.new.items ≡ out.old.items ++ join_with_byte 44 (map decimal (index_of word.now))) }
+    ensures ok { OnOk result (out.new.items ≡ out.old.items ++ join_with_byte 44 (map decimal (index_of word.now))) }
+    ensures kept { take (length out.old.items) out.new.items ≡ out.old.items }
 {
     let mut first = true;
     let mut run = 1;
@@ -48,7 +55,8 @@ fn push_index(out: &mut Vec<u8>, word: &Word) -> Result<(), AllocError>
 
 /// Adds a word with its residue, as `100*z(3,1)`, behind a `+` where it is not the first.
 fn push_entry(out: &mut Vec<u8>, first: bool, entry: &(Word, u64)) -> Result<(), AllocError>
-    ensures { OnOk result (out.new.items ≡ out.old.items ++ behind_byte 43 first (entry_text entry.now)) }
+    ensures ok { OnOk result (out.new.items ≡ out.old.items ++ behind_byte 43 first (entry_text entry.now)) }
+    ensures kept { take (length out.old.items) out.new.items ≡ out.old.items }
 {
     if !first {
         out.push(b'+')?;
@@ -62,7 +70,8 @@ fn push_entry(out: &mut Vec<u8>, first: bool, entry: &(Word, u64)) -> Result<(),
 
 /// Adds the text of a sum: its entries joined by `+`, and `0` where there is none.
 pub fn push_text(out: &mut Vec<u8>, entries: &[(Word, u64)]) -> Result<(), AllocError>
-    ensures { OnOk result (out.new.items ≡ out.old.items ++ text_of entries.now) }
+    ensures ok { OnOk result (out.new.items ≡ out.old.items ++ text_of entries.now) }
+    ensures kept { take (length out.old.items) out.new.items ≡ out.old.items }
 {
     if entries.is_empty() {
         out.push(b'0')?;
