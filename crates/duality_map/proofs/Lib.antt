@@ -1,1 +1,2 @@
 pub mod DualLetters
+pub mod DualOrder

@@ -1,6 +1,8 @@
 //! The dual of a word, and the lesser of a word and its dual.
 ghost use Rattle.std.specs.Prelude.{◌≡◌, ℕ, ◌+◌, ◌≤◌, List, length};
+ghost use Rattle.std.specs.Ordering.{is_gt};
 ghost use Rattle.zeta_model.specs.Duality.{dual_of, other_letter, representative_of};
+ghost use Rattle.zeta_model.specs.Words.{word_cmp};
 
 use word_letters::{Letter, Word};
 
@@ -28,10 +30,22 @@ pub fn dual(w: Word) -> Word
     dual
 }
 
+/// Whether the dual of a word is less than the word: the first place decides at which their letters differ.
+fn has_lesser_dual(w: Word) -> bool
+    ensures { result ≡ is_gt (word_cmp w (dual_of w)) }
+{
+    for i in 0..w.weight() {
+        let letter = w.letter(i);
+        if letter != other_letter(w.letter(w.weight() - 1 - i)) {
+            return letter == Letter::Y;
+        }
+    }
+    false
+}
+
 /// The lesser of a word and its dual, in the order of words.
 pub fn representative(w: Word) -> Word
     ensures { result ≡ representative_of w }
 {
-    let dual = dual(w);
-    if w <= dual { w } else { dual }
+    if has_lesser_dual(w) { dual(w) } else { w }
 }
