@@ -21,12 +21,15 @@ fn ring_of(modulus: u64) -> WordMod
 }
 
 /// The terms of a sum by weight, and those of one weight by increasing word.
-fn ordered<R: Ring>(sum: &WordSum<R>) -> Result<Vec<(Word, R::Elem)>, AllocError>
+fn ordered<R: Ring>(alloc: Global, sum: &WordSum<R>) -> Result<Vec<(Word, R::Elem)>, AllocError>
     ensures increasing { IfOk result (λ terms. IsStrictlySortedBy listing_cmp (keys_of terms.items)) }
     ensures terms { IfOk result (λ terms. IsPermutation sum.now terms.items) }
 {
-    let mut terms = sum.sorted()?;
-    terms.sort_by_key(|term| term.0.weight())?;
+    let mut terms = Vec::with_capacity(alloc, sum.len())?;
+    for (word, residue) in sum.iter() {
+        terms.push((*word, *residue))?;
+    }
+    terms.sort_unstable_by_key(|term| (term.0.weight(), term.0));
     Ok(terms)
 }
 
@@ -42,5 +45,5 @@ pub fn listing_of(
 {
     let ring = ring_of(modulus);
     let sum = folded_sum(alloc, &ring, terms)?;
-    ordered(&sum)
+    ordered(alloc, &sum)
 }
