@@ -8,7 +8,7 @@ use std::alloc::{AllocError, Global};
 use word_letters::Word;
 
 /// A word with its sign, true for `-`.
-#[derive(Clone, Copy)]
+#[derive(Clone, Copy, Default)]
 pub struct Signed {
     pub negative: bool,
     pub word: Word,
@@ -18,7 +18,7 @@ pub struct Signed {
 #[derive(Drop)]
 struct Reader {
     index: SmallVec<u32, 24>,
-    terms: Vec<Signed>,
+    terms: SmallVec<Signed, 8>,
 }
 
 /// The word of an index that begins with at least 2 and has a weight of at most 24; no word for any other.
@@ -111,7 +111,7 @@ impl Reader {
 }
 
 /// The terms of a line: none where it is not accepted.
-pub fn terms_of(alloc: Global, line: &[u8]) -> Result<Option<Vec<Signed>>, AllocError>
+pub fn terms_of(alloc: Global, line: &[u8]) -> Result<Option<SmallVec<Signed, 8>>, AllocError>
     ensures { IfOk result (λ o. option_map (λ terms. terms.items) o ≡ terms_of line.now) }
 {
     if line.len() > 4096 {
@@ -119,7 +119,7 @@ pub fn terms_of(alloc: Global, line: &[u8]) -> Result<Option<Vec<Signed>>, Alloc
     }
     let mut reader = Reader {
         index: SmallVec::new(alloc),
-        terms: Vec::new(alloc),
+        terms: SmallVec::new(alloc),
     };
     let mut place = Place::Start;
     for byte in line {

@@ -12,6 +12,6 @@ returns-in_ok-entries-in-Some-clause-ok c =
     subst (λ text. OnOk c.push_text.result (c.push_text.new.out.items ≡ c.args.out.now.items ++ text))
     (ap text_of c.deref-in-Some.ensures.value
     ∙ ap text_of (listing_is m c.requires.from c.deref.result.now c.in_ok-entries-in-Some.entries.items c.in_ok-entries-in-Some.ensures)
-    ∙ ap (λ ts. text_of (listing_of m ts)) c.deref.ensures.value
+    ∙ ap (λ ts. text_of (listing_of m ts)) c.deref.ensures
     ∙ ap (reply_to m) (ap (option_map (λ terms. terms.items)) (sym c.in-Some.is) ∙ c.in_ok-terms.ensures))
     c.push_text.ensures.ok
