@@ -63,12 +63,32 @@ fn words_that_ask_for_nothing_are_refused(rt: HostRuntime) -> Result<(), Fail> {
         (["list", "3", "2", "5"].as_slice(), 2, USAGE, b"".as_slice()),
         (["dual", "3", "2"].as_slice(), 2, USAGE, b"".as_slice()),
         (["list", "1", "1"].as_slice(), 3, weight, b"1\n".as_slice()),
-        (["list", "25", "1"].as_slice(), 3, weight, b"25\n".as_slice()),
-        (["list", "25", "0"].as_slice(), 3, weight, b"25\n".as_slice()),
+        (
+            ["list", "25", "1"].as_slice(),
+            3,
+            weight,
+            b"25\n".as_slice(),
+        ),
+        (
+            ["list", "25", "0"].as_slice(),
+            3,
+            weight,
+            b"25\n".as_slice(),
+        ),
         (["list", "4", "0"].as_slice(), 3, depth, b"0\n".as_slice()),
         (["list", "4", "4"].as_slice(), 3, depth, b"4\n".as_slice()),
-        (["list", "14", "13"].as_slice(), 3, columns, b"4096\n".as_slice()),
-        (["list", "2", "1"].as_slice(), 0, b"".as_slice(), b"".as_slice()),
+        (
+            ["list", "14", "13"].as_slice(),
+            3,
+            columns,
+            b"4096\n".as_slice(),
+        ),
+        (
+            ["list", "2", "1"].as_slice(),
+            0,
+            b"".as_slice(),
+            b"".as_slice(),
+        ),
         (
             ["dual", "18446744073709551616"].as_slice(),
             2,
@@ -154,13 +174,11 @@ fn the_listing_is_printed(rt: HostRuntime) -> Result<(), Fail> {
     for (words, lines) in [
         (
             ["list", "4", "3"].as_slice(),
-            b"0 Fin z(2) z(2)\n1 Reg 1 z(3)\n2 Reg 1 z(2,1)\n3 Reg 2 z(2)\n4 Dual z(4)\n"
-                .as_slice(),
+            b"0 Fin z(2) z(2)\n1 Reg 1 z(3)\n2 Reg 1 z(2,1)\n3 Reg 2 z(2)\n4 Dual z(4)\n".as_slice(),
         ),
         (
             ["list", "05", "4"].as_slice(),
-            b"0 Fin z(2) z(3)\n1 Fin z(2) z(2,1)\n2 Reg 1 z(4)\n3 Reg 1 z(3,1)\n4 Reg 1 z(2,2)\n5 Reg 1 z(2,1,1)\n6 Reg 2 z(3)\n7 Reg 2 z(2,1)\n8 Reg 3 z(2)\n9 Dual z(5)\n10 Dual z(4,1)\n11 Dual z(3,2)\n12 Dual z(2,3)\n13 Prod [Reg 1 z(2)] z(2)\n14 Prod [Dual z(3)] z(2)\n"
-                .as_slice(),
+            b"0 Fin z(2) z(3)\n1 Fin z(2) z(2,1)\n2 Reg 1 z(4)\n3 Reg 1 z(3,1)\n4 Reg 1 z(2,2)\n5 Reg 1 z(2,1,1)\n6 Reg 2 z(3)\n7 Reg 2 z(2,1)\n8 Reg 3 z(2)\n9 Dual z(5)\n10 Dual z(4,1)\n11 Dual z(3,2)\n12 Dual z(2,3)\n13 Prod [Reg 1 z(2)] z(2)\n14 Prod [Dual z(3)] z(2)\n".as_slice(),
         ),
         (
             ["list", "6", "2"].as_slice(),

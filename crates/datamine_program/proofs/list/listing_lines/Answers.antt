@@ -10,5 +10,5 @@ pub lines_of-requires : goal.lines_of-requires
 lines_of-requires c =
     let listed : c.deref.result.now ≡ listing_of c.args.weight c.args.depth = c.deref.ensures.value ∙ c.in_ok-names.ensures in
     λ k d below.
-      let name = slice_index_or c.deref.result.now k d in
-      ((listing_of-whole c.args.weight c.args.depth name c.requires.weight_within).0 (subst (λ (names : List RelName). Contains names name) listed (Contains-get_or c.deref.result.now k d below))).0
+    let name = slice_index_or c.deref.result.now k d in
+    ((listing_of-whole c.args.weight c.args.depth name c.requires.weight_within).0 (subst (λ (names : List RelName). Contains names name) listed (Contains-get_or c.deref.result.now k d below))).0
