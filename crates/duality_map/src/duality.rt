@@ -34,9 +34,9 @@ pub fn dual(w: Word) -> Word
 fn has_lesser_dual(w: Word) -> bool
     ensures { result ≡ is_gt (word_cmp w (dual_of w)) }
 {
-    for i in 0..w.weight() {
-        let letter = w.letter(i);
-        if letter != other_letter(w.letter(w.weight() - 1 - i)) {
+    for place in 0..w.weight() {
+        let letter = w.letter(place);
+        if letter != other_letter(w.letter(w.weight() - 1 - place)) {
             return letter == Letter::Y;
         }
     }

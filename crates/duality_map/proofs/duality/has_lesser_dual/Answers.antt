@@ -24,24 +24,24 @@ other_letters Y Y r s u v e f g = let t : false ≡ true = sym e ∙ f in cc
 pub returns-then-ne : goal.returns-then-ne
 returns-then-ne c =
     let w = c.args.w in
-    let i = c.loop-i.i in
+    let i = c.loop-place.place in
     let u = drop (suc i) w in
     let v = drop (suc i) (dual_of w) in
     let a = c.letter-letter.result in
-    let both : i + (c.weight.result - 1 - i) + 1 ≡ length w = omega (arith, c.loop-i-test.true, c.weight.ensures.length, c.weight-i-end.ensures.length) in
+    let both : i + (c.weight.result - 1 - i) + 1 ≡ length w = omega (arith, c.loop-place-test.true, c.weight.ensures.length, c.weight-place-end.ensures.length) in
     other_letters a c.other_letter.result c.ne.result c.eq.result u v c.ne.ensures c.if-ne.true c.eq.ensures
-    ∙ ap is_gt ((λ k. word_cmp (a ∷ u) (c.other_letter.ensures k ∷ v)) ∙ sym (order_from w i (c.weight.result - 1 - i) a c.letter.result both c.letter-letter.ensures c.letter.ensures) ∙ c.loop-i.invariant)
+    ∙ ap is_gt ((λ k. word_cmp (a ∷ u) (c.other_letter.ensures k ∷ v)) ∙ sym (order_from w i (c.weight.result - 1 - i) a c.letter.result both c.letter-letter.ensures c.letter.ensures) ∙ c.loop-place.invariant)
 
-pub loop-i-preserved : goal.loop-i-preserved
-loop-i-preserved c =
+pub loop-place-preserved : goal.loop-place-preserved
+loop-place-preserved c =
     let w = c.args.w in
-    let i = c.loop-i.i in
+    let i = c.loop-place.place in
     let u = drop (suc i) w in
     let v = drop (suc i) (dual_of w) in
     let a = c.letter-letter.result in
-    let both : i + (c.weight.result - 1 - i) + 1 ≡ length w = omega (arith, c.loop-i-test.true, c.weight.ensures.length, c.weight-i-end.ensures.length) in
+    let both : i + (c.weight.result - 1 - i) + 1 ≡ length w = omega (arith, c.loop-place-test.true, c.weight.ensures.length, c.weight-place-end.ensures.length) in
     (λ k. word_cmp (drop (add-one i k) w) (drop (add-one i k) (dual_of w)))
     ∙ sym (order_same a c.other_letter.result u v (same_letters a c.other_letter.result c.ne.result c.ne.ensures c.if-ne.false))
     ∙ (λ k. word_cmp (a ∷ u) (c.other_letter.ensures k ∷ v))
     ∙ sym (order_from w i (c.weight.result - 1 - i) a c.letter.result both c.letter-letter.ensures c.letter.ensures)
-    ∙ c.loop-i.invariant
+    ∙ c.loop-place.invariant
