@@ -13,7 +13,7 @@ fn gets(alloc: Global, modulus: u64, line: &[u8], wanted: &[u8]) -> Result<bool,
 #[test]
 fn sums_are_folded_by_duality(rt: HostRuntime) -> Result<(), AllocError> {
     // modulus, line, reply
-    let table: [(u64, &str, &str); 13] = [
+    let table: [(u64, &str, &str); 14] = [
         (101, "z(2,1)-z(3)", "0"),
         (101, "z(2,1)+z(3)", "2*z(3)"),
         (101, "z(3,1)+z(2)", "1*z(2)+1*z(3,1)"),
@@ -27,6 +27,11 @@ fn sums_are_folded_by_duality(rt: HostRuntime) -> Result<(), AllocError> {
             "1*z(2)+100*z(5)+2*z(4,1)+1*z(2,3)",
         ),
         (101, "z(23,1)", "1*z(23,1)"),
+        (
+            101,
+            "z(2,1,1,1,1,1,1,1,1,1,1,1,1,1,1,1,1,1,1,1,1,1,1)+z(23,1)",
+            "1*z(24)+1*z(23,1)",
+        ),
         (3, "z(5)+z(5)+z(5)+z(2)", "1*z(2)"),
         (
             101,
@@ -51,9 +56,25 @@ fn sums_are_folded_by_duality(rt: HostRuntime) -> Result<(), AllocError> {
 
 #[test]
 fn other_lines_are_refused(rt: HostRuntime) -> Result<(), AllocError> {
-    let lines: [&str; 17] = [
-        "", "z(3", "2*z(3)", "z(25)", "z(12,13)", "z(1,2)", "z(2 4)", "z(02)", "z(999)", "z(1000)",
-        "z(2)z(3)", "z(2)+", "+-z(2)", "z(2)\n", "z(2,)", "z()", "z(2,0)",
+    let lines: [&str; 18] = [
+        "",
+        "z(3",
+        "2*z(3)",
+        "z(25)",
+        "z(12,13)",
+        "z(1,2)",
+        "z(2 4)",
+        "z(02)",
+        "z(999)",
+        "z(1000)",
+        "z(2,1,1,1,1,1,1,1,1,1,1,1,1,1,1,1,1,1,1,1,1,1,1,1,1,1)",
+        "z(2)z(3)",
+        "z(2)+",
+        "+-z(2)",
+        "z(2)\n",
+        "z(2,)",
+        "z()",
+        "z(2,0)",
     ];
     for line in lines {
         assert!(rt;
