@@ -15,6 +15,10 @@ abbrev pub value_or_zero : {E : Type 0} → (E → ℕ) → Option E → ℕ
 value_or_zero value None = 0
 value_or_zero value (Some a) = value a
 
+-- an element that a look-up found is of the ring
+pub has_found : {E : Type 0} (has : E → Bool) (es old : List (List Letter × E)) (w : List Letter) (a : E) → es ≡ old → Some a ≡ lookup (same_word w) es → AllIn has old → has a ≡ true
+has_found has es old w a same finds all = subst (λ found. IfSome found (λ e. has e ≡ true)) (sym finds) (IfSome-lookup_from_All (λ e. has e ≡ true) (same_word w) es (subst (AllIn has) (sym same) all))
+
 module _ {E : Type 0} (value : E → ℕ) where
   -- a word that stands nowhere has the coefficient 0
   pub coefficient_of-absent : (w : List Letter) (es : List (List Letter × E)) → AllByRecursion (λ y. same_word w y ≡ false) (keys_of es) → coefficient_of value es w ≡ 0
@@ -39,6 +43,33 @@ module _ {E : Type 0} (value : E → ℕ) where
       go : (o : Option E) → IfSome o (λ a. has a ≡ true) → value_or_zero value o < m
       go None h = pos
       go (Some a) h = below a h
+
+  -- what a look-up of the word w found, where the terms have another name too
+  pub coefficient_of-found : (es old : List (List Letter × E)) (w : List Letter) (found : Option E) → es ≡ old → IsDistinct same_word (keys_of es) → found ≡ lookup (same_word w) es → coefficient_of value old w ≡ value_or_zero value found
+  coefficient_of-found es old w found same d finds = ap (λ l. coefficient_of value l w) (sym same) ∙ coefficient_of-lookup es w d ∙ ap (value_or_zero value) (sym finds)
+
+  -- what a new word is given is its residue
+  pub new_value : (es old : List (List Letter × E)) (w : List Letter) (a : E) (m : ℕ) → es ≡ old → IsDistinct same_word (keys_of es) → None ≡ lookup (same_word w) es → value a < m → value a ≡ (coefficient_of value old w + value a) % m
+  new_value es old w a m same d finds less =
+      let whole : value a ≡ coefficient_of value old w + value a = omega (arith, coefficient_of-found es old w None same d finds) in
+      sym (mod-eq_of_lt less) ∙ ap (λ n. n % m) whole
+
+  -- nothing is added where the residue is 0
+  pub coefficient_of-same : (has : E → Bool) (m c : ℕ) (es old : List (List Letter × E)) (w : List Letter) → es ≡ old → 0 < m → ((a : E) → has a ≡ true → value a < m) → IsDistinct same_word (keys_of es) → AllIn has old → c ≡ 0
+      → (t : List Letter) → coefficient_of value es t ≡ (coefficient_of value old t + c * single w t) % m
+  coefficient_of-same has m c es old w same pos below d all none t =
+      let whole : coefficient_of value old t ≡ coefficient_of value old t + 0 * single w t = omega arith in
+      sym (mod-eq_of_lt (coefficient_of_below has m es t pos below d (subst (AllIn has) (sym same) all))) ∙ ap (λ l. coefficient_of value l t % m) same
+      ∙ ap (λ n. n % m) whole ∙ ap (λ n. (coefficient_of value old t + n * single w t) % m) (sym none)
+
+  -- of two changes at one word the second holds
+  pub changed_again : (es fs gs : List (List Letter × E)) (w : List Letter) (o p : Option E) → ((q : List Letter) → lookup (same_word q) fs ≡ cond (same_word w q) p (lookup (same_word q) es))
+      → ((q : List Letter) → lookup (same_word q) gs ≡ cond (same_word w q) o (lookup (same_word q) fs)) → (q : List Letter) → lookup (same_word q) gs ≡ cond (same_word w q) o (lookup (same_word q) es)
+  changed_again es fs gs w o p first second q = second q ∙ ap (cond (same_word w q) o) (first q) ∙ go (same_word w q) (lookup (same_word q) es)
+    where
+      go : (b : Bool) (l : Option E) → cond b o (cond b p l) ≡ cond b o l
+      go true l = refl
+      go false l = refl
 
   -- what a change at the word w does
   module _ (es fs : List (List Letter × E)) (w : List Letter) (o : Option E) (before : IsDistinct same_word (keys_of es)) (after : IsDistinct same_word (keys_of fs))

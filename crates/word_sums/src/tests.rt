@@ -48,6 +48,11 @@ fn terms_are_gathered_and_sorted(rt: HostRuntime) -> Result<(), Fail> {
         ),
     ];
     for (terms, wanted) in table {
+        assert_eq!(rt;
+            WordSum::<WordMod>::with_capacity(rt.alloc(), terms.len())?.len(),
+            0,
+            "{terms:?}"
+        );
         let sum = sum_of(rt.alloc(), &ring, terms)?;
         assert_eq!(rt; sum.len(), wanted.len(), "{terms:?}");
         let sorted = sum.sorted()?;

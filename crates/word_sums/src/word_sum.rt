@@ -45,6 +45,15 @@ impl<R: Ring> WordSum<R> {
         }
     }
 
+    /// The sum without words, with room for so many of them.
+    pub fn with_capacity(alloc: Global, words: usize) -> Result<WordSum<R>, AllocError>
+        ensures { IfOk result (λ s. s ≡ []) }
+    {
+        Ok(WordSum {
+            terms: IndexMap::with_capacity(alloc, words)?,
+        })
+    }
+
     /// How many words have a residue that is not zero.
     pub fn len(&self) -> usize
         ensures len { result ≡ length self.now }
@@ -84,12 +93,22 @@ impl<R: Ring> WordSum<R> {
         ensures in_ring { AllIn (R.has ring.now) self.new }
         ensures err { OnErr result (self.new ≡ self.old) }
     {
-        let sum = ring.add(self.coefficient(ring, word), residue);
-        if R::is_zero(sum) {
-            self.terms.swap_remove(&word);
+        let terms = &mut self.terms;
+        if R::is_zero(residue) {
             return Ok(());
         }
-        match self.terms.insert(word, sum) {
+        // A word that is new, as most are, is looked up but once.
+        let old = match terms.insert(word, residue) {
+            Ok(Some(old)) => old,
+            Ok(None) => return Ok(()),
+            Err(_) => return Err(AllocError),
+        };
+        let sum = ring.add(old, residue);
+        if R::is_zero(sum) {
+            terms.swap_remove(&word);
+            return Ok(());
+        }
+        match terms.insert(word, sum) {
             Ok(_) => {}
             Err(_) => return Err(AllocError),
         }
