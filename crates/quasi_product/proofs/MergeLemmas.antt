@@ -1,8 +1,8 @@
 -- Terms that are taken in turn from two lists, each behind its front.
-use Rattle.std.proofs.Common.{◌≡◌, ℕ, ◌+◌, ◌*◌, ◌%◌, ◌≤◌, Bool, true, List, [], ◌∷◌, ◌++◌, length, refl, sym, ap, subst, ◌∙◌, arith, length-append}
+use Rattle.std.proofs.Common.{◌≡◌, ℕ, ◌+◌, ◌*◌, ◌%◌, ◌≤◌, Bool, true, List, [], ◌∷◌, ◌++◌, length, map, refl, sym, ap, subst, ◌∙◌, arith, length-append}
 use Rattle.std.specs.Prelude.{All}
 use Rattle.std.specs.Map.{keys_of, values_of}
-use Rattle.std.proofs.lemmas.List.{map-append}
+use Rattle.std.proofs.lemmas.List.{append-nil, append_assoc, map-append}
 use Rattle.std.proofs.lemmas.List.Elements.{All-head, All-tail, All-push}
 use Rattle.zeta_model.specs.declared.Letter.{Letter}
 use Rattle.zeta_model.specs.Modular.{Same}
@@ -38,6 +38,19 @@ rest_fits n a x xs fits = All-tail (λ w. length a + length w ≤ n) x.0 (keys_o
 
 pub fits_first : {E : Type 0} (n : ℕ) (a : Word) (terms : List (Word × E)) (x : Word × E) (xs : List (Word × E)) → terms ≡ x ∷ xs → FitBehind n a terms → length a + length x.0 ≤ n
 fits_first n a terms x xs is fits = All-head (λ w. length a + length w ≤ n) x.0 (keys_of xs) (subst (FitBehind n a) is fits)
+
+pub fits_rest : {E : Type 0} (n : ℕ) (a : Word) (terms : List (Word × E)) (x : Word × E) (xs : List (Word × E)) → terms ≡ x ∷ xs → FitBehind n a terms → FitBehind n a xs
+fits_rest n a terms x xs is fits = rest_fits n a x xs (subst (FitBehind n a) is fits)
+
+-- one more term has its front
+pub behind_next : {E : Type 0} (front : Word) (terms after rest xs whole : List (Word × E)) (x : Word × E) (u : Word) → rest ≡ x ∷ xs → u ≡ front ++ x.0 → after ≡ terms ++ (u, x.1) ∷ []
+    → terms ++ map (λ t. (front ++ t.0, t.1)) rest ≡ whole → after ++ map (λ t. (front ++ t.0, t.1)) xs ≡ whole
+behind_next front terms after rest xs whole x u is word pushed before =
+    ap (λ ts. ts ++ map (λ t. (front ++ t.0, t.1)) xs) (pushed ∙ ap (λ w. terms ++ (w, x.1) ∷ []) word)
+    ∙ append_assoc terms ((front ++ x.0, x.1) ∷ []) (map (λ t. (front ++ t.0, t.1)) xs) ∙ ap (λ l. terms ++ map (λ t. (front ++ t.0, t.1)) l) (sym is) ∙ before
+
+pub behind_end : {E : Type 0} (front : Word) (terms rest whole : List (Word × E)) → rest ≡ [] → terms ++ map (λ t. (front ++ t.0, t.1)) rest ≡ whole → terms ≡ whole
+behind_end front terms rest whole none before = sym (append-nil terms) ∙ ap (λ l. terms ++ map (λ t. (front ++ t.0, t.1)) l) (sym none) ∙ before
 
 pub has_first : {E : Type 0} (has : E → Bool) (terms : List (Word × E)) (x : Word × E) (xs : List (Word × E)) → terms ≡ x ∷ xs → AllIn has terms → has x.1 ≡ true
 has_first has terms x xs is all = All-head (λ e. has e ≡ true) x.1 (values_of xs) (subst (AllIn has) is all)
@@ -140,4 +153,43 @@ module _ {E : Type 0} (has : E → Bool) (value : E → ℕ) (m : ℕ) (a b : Wo
         ap (λ n. n % m) none
         ∙ (λ i. (weighted value f terms + (weighted value (λ w. f (a ++ w)) (sym no_left i) + weighted value (λ w. f (b ++ w)) (sym no_right i))) % m)
         ∙ merging.counts f;
+  }
+
+module _ {E : Type 0} (has : E → Bool) (value : E → ℕ) (m : ℕ) where
+  behind_rest : (front : Word) (old list terms rest : List (Word × E)) → Merging has value m [] front old list terms [] rest → IsMerged has value m [] old front list (terms ++ map (λ t. (front ++ t.0, t.1)) rest)
+  behind_rest front old list terms [] merging = subst (IsMerged has value m [] old front list) (sym (append-nil terms)) (Merging-end has value m [] front old list terms [] [] merging refl refl)
+  behind_rest front old list terms (x ∷ rest) merging =
+      subst (IsMerged has value m [] old front list) (append_assoc terms ((front ++ x.0, x.1) ∷ []) (map (λ t. (front ++ t.0, t.1)) rest))
+      (behind_rest front old list (terms ++ (front ++ x.0, x.1) ∷ []) rest
+      (Merging-next has value m [] front old list terms [] (x ∷ rest) (front ++ x.0, x.1) (terms ++ (front ++ x.0, x.1) ∷ []) [] rest merging
+      (taken_right has value m [] front [] (x ∷ rest) x rest (front ++ x.0) refl refl merging.left_in merging.right_in) refl))
+
+  -- the terms of a list behind a front, after others
+  pub IsMerged-behind : (front : Word) (old list after : List (Word × E)) → after ≡ old ++ map (λ t. (front ++ t.0, t.1)) list → AllIn has old → AllIn has list → IsMerged has value m [] old front list after
+  IsMerged-behind front old list after is old_in list_in = subst (IsMerged has value m [] old front list) (sym is) (behind_rest front old list old list (record {
+    terms_in = old_in;
+    left_in = λ k d h. absurd (omega arith);
+    right_in = list_in;
+    within = λ n hx hy. ((λ k d h. omega (arith, hx k d h)), (λ k d h. absurd (omega arith)), hy);
+    counts = λ f. ap (λ n. n % m) (omega arith);
+  }))
+
+  -- one list after another, each behind its front
+  pub IsMerged-two : (a b : Word) (left right none first second : List (Word × E)) → none ≡ [] → first ≡ none ++ map (λ t. (a ++ t.0, t.1)) left → second ≡ first ++ map (λ t. (b ++ t.0, t.1)) right
+      → AllIn has left → AllIn has right → IsMerged has value m a left b right second
+  IsMerged-two a b left right none first second is first_is second_is left_in right_in =
+      let one : IsMerged has value m [] [] a left first = IsMerged-behind a [] left first (first_is ∙ ap (λ l. l ++ map (λ t. (a ++ t.0, t.1)) left) is) (λ k d h. absurd (omega arith)) left_in in
+      let two : IsMerged has value m [] first b right second = IsMerged-behind b first right second second_is one.in_ring right_in in
+      record {
+        in_ring = two.in_ring;
+        within = λ n hx hy. two.within n (λ k d h. omega (arith, one.within n (λ j e l. absurd (omega arith)) hx k d h)) hy;
+        counts = λ f.
+            two.counts f ∙ same-add_right m (weighted value f first) (0 + weighted value (λ w. f (a ++ w)) left) (weighted value (λ w. f (b ++ w)) right) (one.counts f) ∙ ap (λ n. n % m) (omega arith);
+      }
+
+  pub IsMerged-swapped : (a b : Word) (left right terms : List (Word × E)) → IsMerged has value m b right a left terms → IsMerged has value m a left b right terms
+  IsMerged-swapped a b left right terms merged = record {
+    in_ring = merged.in_ring;
+    within = λ n hx hy. merged.within n hy hx;
+    counts = λ f. merged.counts f ∙ ap (λ n. n % m) (omega arith);
   }

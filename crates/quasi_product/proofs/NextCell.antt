@@ -7,7 +7,7 @@ use Rattle.zeta_model.specs.Product.{Alphabet, AlphabetLaws, rest, prod}
 use Rattle.zeta_model.proofs.LetterSteps.{prod-empty_second}
 use Rattle.quasi_product.specs.Cells.{FitBehind, IsMerged, IsCell, IsRow, IsHead, AreSuffixes}
 use Rattle.quasi_product.specs.declared.rows.Suffix.{Suffix}
-use Rattle.quasi_product.proofs.CellLemmas.{cell_one, cell_fits, length_u, length_v, Two, two_within, cell_two, cell_three}
+use Rattle.quasi_product.proofs.CellLemmas.{cell_one, cell_fits, length_u, length_v, Two, cell_two, cell_three}
 
 abbrev Word : Type 0
 Word = List Letter
@@ -72,11 +72,6 @@ module _ {E C : Type 0} (terms_of : C → List (Word × E)) (has : E → Bool) (
       → (s : Suffix) → IsCell has value m k (length u.word + length (slice_index_or suffixes (length row) s).word) two (prod L u.word (slice_index_or suffixes (length row) s).word)
   next_two x y xs ys two x_is y_is xs_are ys_are merged none =
       at_suffix two (cell_two has value m k L laws u.word v.word u.letter v.letter head.covers head_v.covers head.some head_v.some fit_both head.first head_v.first (terms_of x) (terms_of y) two (two_of x y xs ys two x_is y_is xs_are ys_are merged) none)
-
-  pub fit_two : (x y : C) (xs ys two left : List (Word × E)) (e : Word) → x ≡ slice_index_or below i x → y ≡ slice_index_or row (i - 1) y → xs ≡ terms_of x → ys ≡ terms_of y → IsMerged has value m u.letter xs v.letter ys two → left ≡ two → e ≡ [] → FitBehind 24 e left
-  fit_two x y xs ys two left e x_is y_is xs_are ys_are merged is empty =
-      let within = two_within has value m k L laws u.word v.word u.letter v.letter head.covers head_v.covers head.some head_v.some fit_both head.first head_v.first (terms_of x) (terms_of y) two (two_of x y xs ys two x_is y_is xs_are ys_are merged) in
-      subst (FitBehind 24 e) (sym is) (λ j d h. omega (arith, ap length empty, within j d h, fit_both))
 
   pub fit_joined : (z : C) (w : Word) (zs : List (Word × E)) → z ≡ slice_index_or below (i - 1) z → zs ≡ terms_of z → length w ≡ length u.letter + length v.letter → FitBehind 24 w zs
   fit_joined z w zs z_is zs_are length_w = subst (FitBehind 24 w) (sym zs_are) (cell_fits has value m k (length (rest L u.word) + length (rest L v.word)) 24 w (terms_of z) (prod L (rest L u.word) (rest L v.word))

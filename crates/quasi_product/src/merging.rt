@@ -1,5 +1,5 @@
 //! Lists of terms, each with a word in front, merged by their words.
-ghost use Rattle.std.specs.Prelude.{◌≡◌, IfNone, IfSome, IfOk, []};
+ghost use Rattle.std.specs.Prelude.{◌≡◌, ◌++◌, IfNone, IfSome, IfOk, OnOk, [], map};
 ghost use Rattle.quasi_product.specs.Cells.{FitBehind, IsMerged, IsTaken};
 ghost use Rattle.word_sums.specs.Terms.{AllIn};
 
@@ -9,11 +9,11 @@ use std::alloc::{AllocError, Global};
 use std::cmp::Ordering;
 use word_letters::Word;
 
-/// Words with elements of a ring, in the order of the words. No contract speaks of the order: it keeps the lists short.
+/// Words with elements of a ring, by decreasing word. No contract speaks of the order: it keeps the lists short.
 pub(crate) type Terms<R> = Vec<(Word, <R as Ring>::Elem)>;
 
-/// The terms of `left` with `a` before their words and those of `right` with `b` before theirs. Of two lists in the order of
-/// their words one is made in which each word stands once.
+/// The terms of `left` with `a` before their words and those of `right` with `b` before theirs, with room for `more` terms.
+/// Of two lists by decreasing word one is made in which each word stands once, where neither front begins the other.
 pub(crate) fn merged<R: Ring>(
     alloc: Global,
     ring: &R,
@@ -21,6 +21,7 @@ pub(crate) fn merged<R: Ring>(
     left: &[(Word, R::Elem)],
     b: Word,
     right: &[(Word, R::Elem)],
+    more: usize,
 ) -> Result<Terms<R>, AllocError>
     requires fits_left { FitBehind 24 a left.now }
     requires fits_right { FitBehind 24 b right.now }
@@ -28,23 +29,74 @@ pub(crate) fn merged<R: Ring>(
     requires right_in_ring { AllIn (R.has ring.now) right.now }
     ensures ok { IfOk result (λ terms. IsMerged (R.has ring.now) (R.value ring.now) (R.modulus ring.now) a left.now b right.now terms.items) }
 {
-    let mut terms = Vec::with_capacity(alloc, left.len().saturating_add(right.len()))?;
+    let room = left.len().saturating_add(right.len()).saturating_add(more);
+    let mut terms = Vec::with_capacity(alloc, room)?;
+    match a.cmp(&b) {
+        Ordering::Less => {
+            add_behind::<R>(b, right, &mut terms)?;
+            add_behind::<R>(a, left, &mut terms)?;
+            Ok(terms)
+        }
+        Ordering::Greater => {
+            add_behind::<R>(a, left, &mut terms)?;
+            add_behind::<R>(b, right, &mut terms)?;
+            Ok(terms)
+        }
+        Ordering::Equal => {
+            add_merged(ring, a, left, right, &mut terms)?;
+            Ok(terms)
+        }
+    }
+}
+
+/// Adds the terms of the list with `front` before their words. After want of memory only some of them are added.
+pub(crate) fn add_behind<R: Ring>(
+    front: Word,
+    list: &[(Word, R::Elem)],
+    terms: &mut Terms<R>,
+) -> Result<(), AllocError>
+    requires fits { FitBehind 24 front list.now }
+    ensures ok { OnOk result (terms.new.items ≡ terms.old.items ++ map (λ t. (front ++ t.0, t.1)) list.now) }
+{
+    let mut rest = list;
+    while let Some((term, behind)) = rest.split_first() {
+        terms.push((joined(front, term.0), term.1))?;
+        rest = behind;
+    }
+    Ok(())
+}
+
+/// Adds the terms of both lists with `front` before their words to a list without terms. After want of memory only some of
+/// them are added.
+fn add_merged<R: Ring>(
+    ring: &R,
+    front: Word,
+    left: &[(Word, R::Elem)],
+    right: &[(Word, R::Elem)],
+    terms: &mut Terms<R>,
+) -> Result<(), AllocError>
+    requires fits_left { FitBehind 24 front left.now }
+    requires fits_right { FitBehind 24 front right.now }
+    requires left_in_ring { AllIn (R.has ring.now) left.now }
+    requires right_in_ring { AllIn (R.has ring.now) right.now }
+    requires none { terms.old.items ≡ [] }
+    ensures ok { OnOk result (IsMerged (R.has ring.now) (R.value ring.now) (R.modulus ring.now) front left.now front right.now terms.new.items) }
+{
     let mut xs = left;
     let mut ys = right;
-    while let Some((term, xs_rest, ys_rest)) = split_least(ring, a, xs, b, ys) {
+    while let Some((term, xs_rest, ys_rest)) = split_greatest(ring, front, xs, ys) {
         terms.push(term)?;
         xs = xs_rest;
         ys = ys_rest;
     }
-    Ok(terms)
+    Ok(())
 }
 
-/// The lesser of the first words of two lists, each behind its front, with the sum of its elements, and what is left of both.
-fn split_least<'a, R: Ring>(
+/// The greater of the first words of two lists, behind the front, with the sum of its elements, and what is left of both.
+fn split_greatest<'a, R: Ring>(
     ring: &R,
-    a: Word,
+    front: Word,
     left: &'a [(Word, R::Elem)],
-    b: Word,
     right: &'a [(Word, R::Elem)],
 ) -> Option<
     (
@@ -53,25 +105,21 @@ fn split_least<'a, R: Ring>(
         &'a [(Word, R::Elem)],
     ),
 >
-    requires fits_left { FitBehind 24 a left.now }
-    requires fits_right { FitBehind 24 b right.now }
+    requires fits_left { FitBehind 24 front left.now }
+    requires fits_right { FitBehind 24 front right.now }
     requires left_in_ring { AllIn (R.has ring.now) left.now }
     requires right_in_ring { AllIn (R.has ring.now) right.now }
     ensures none { IfNone result ((left.now ≡ []) × (right.now ≡ [])) }
-    ensures taken { IfSome result (λ r. IsTaken (R.has ring.now) (R.value ring.now) (R.modulus ring.now) a left.now b right.now r.0 r.1.now r.2.now) }
+    ensures taken { IfSome result (λ r. IsTaken (R.has ring.now) (R.value ring.now) (R.modulus ring.now) front left.now front right.now r.0 r.1.now r.2.now) }
 {
     match (left.split_first(), right.split_first()) {
-        (Some((x, xs)), Some((y, ys))) => {
-            let u = joined(a, x.0);
-            let v = joined(b, y.0);
-            match u.cmp(&v) {
-                Ordering::Less => Some(((u, x.1), xs, right)),
-                Ordering::Greater => Some(((v, y.1), left, ys)),
-                Ordering::Equal => Some(((u, ring.add(x.1, y.1)), xs, ys)),
-            }
-        }
-        (Some((x, xs)), None) => Some(((joined(a, x.0), x.1), xs, right)),
-        (None, Some((y, ys))) => Some(((joined(b, y.0), y.1), left, ys)),
+        (Some((x, xs)), Some((y, ys))) => match x.0.cmp(&y.0) {
+            Ordering::Less => Some(((joined(front, y.0), y.1), left, ys)),
+            Ordering::Greater => Some(((joined(front, x.0), x.1), xs, right)),
+            Ordering::Equal => Some(((joined(front, x.0), ring.add(x.1, y.1)), xs, ys)),
+        },
+        (Some((x, xs)), None) => Some(((joined(front, x.0), x.1), xs, right)),
+        (None, Some((y, ys))) => Some(((joined(front, y.0), y.1), left, ys)),
         (None, None) => None,
     }
 }

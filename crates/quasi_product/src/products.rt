@@ -36,11 +36,30 @@ pub fn product<L: Letters, R: Ring>(
     if weight > MAX_WEIGHT {
         return Err(ProductFault::TooLong(weight));
     }
-    let mut sum = WordSum::new(alloc);
-    match add_product::<L, R>(alloc, ring, ring.one(), u, v, &mut sum) {
-        Ok(()) => Ok(sum),
+    match product_sum::<L, R>(alloc, ring, u, v) {
+        Ok(sum) => Ok(sum),
         Err(e) => Err(ProductFault::Memory(e)),
     }
+}
+
+/// The product of two covered words of at most 24 letters together.
+fn product_sum<L: Letters, R: Ring>(
+    alloc: Global,
+    ring: &R,
+    u: Word,
+    v: Word,
+) -> Result<WordSum<R>, AllocError>
+    requires covers_u { L.alphabet.covered u ≡ true }
+    requires covers_v { L.alphabet.covered v ≡ true }
+    requires fits { length u + length v ≤ 24 }
+    ensures value { IfOk result (λ sum. (t : List Letter) → coefficient_of (R.value ring.now) sum t
+        ≡ sum_of (prod L.alphabet u v) t % R.modulus ring.now) }
+    ensures in_ring { IfOk result (λ sum. AllIn (R.has ring.now) sum) }
+{
+    let terms = product_terms::<L, R>(alloc, ring, ring.one(), u, v)?;
+    let mut sum = WordSum::with_capacity(alloc, terms.len())?;
+    add_terms(ring, terms.as_slice(), &mut sum)?;
+    Ok(sum)
 }
 
 /// Adds `c` times the product of `u` and `v`. After want of memory only a part of it is added.

@@ -4,7 +4,7 @@ ghost use Rattle.quasi_product.specs.Cells.{AreSuffixes, IsCell, IsFirstRow, IsH
 ghost use Rattle.zeta_model.specs.Product.{prod, rest};
 
 use crate::Letters;
-use crate::merging::{Terms, merged};
+use crate::merging::{Terms, add_behind, merged};
 use crate::products::{cut, join_letters};
 use residues::Ring;
 use std::alloc::{AllocError, Global};
@@ -166,23 +166,29 @@ fn next_cell<L: Letters, R: Ring>(
         return one_term::<R>(alloc, u.word, c);
     }
     let v = &suffixes[i];
-    let two = merged(
-        alloc,
-        ring,
-        u.letter,
-        below[i].as_slice(),
-        v.letter,
-        row[i - 1].as_slice(),
-    )?;
     match join_letters::<L>(u.letter, v.letter) {
-        None => Ok(two),
-        Some(z) => merged(
+        None => merged(
             alloc,
             ring,
-            Word::empty(),
-            two.as_slice(),
-            z,
-            below[i - 1].as_slice(),
+            u.letter,
+            below[i].as_slice(),
+            v.letter,
+            row[i - 1].as_slice(),
+            0,
         ),
+        Some(z) => {
+            let both = below[i - 1].as_slice();
+            let mut terms = merged(
+                alloc,
+                ring,
+                u.letter,
+                below[i].as_slice(),
+                v.letter,
+                row[i - 1].as_slice(),
+                both.len(),
+            )?;
+            add_behind::<R>(z, both, &mut terms)?;
+            Ok(terms)
+        }
     }
 }

@@ -1,25 +1,27 @@
-use Rattle.quasi_product.proofs.MergeLemmas.{Merging-start, Merging-next, Merging-end}
+use Rattle.std.proofs.Common.{sym, subst}
+use Rattle.zeta_model.proofs.WordOrder.{word_cmp-IsAntisymmetric}
+use Rattle.quasi_product.specs.Cells.{FitBehind, IsMerged}
+use Rattle.quasi_product.proofs.MergeLemmas.{IsMerged-two, IsMerged-swapped}
 use Rattle.quasi_product.proofs.merging.merged.Goals as goal
 
-pub loop-term-init : goal.loop-term-init
-loop-term-init g c =
-    Merging-start (g.R.Ring.has c.args.ring.now) (g.R.Ring.value c.args.ring.now) (g.R.Ring.modulus c.args.ring.now) c.args.a c.args.b c.args.left.now c.args.right.now c.in_ok-terms.terms.items c.in_ok-terms.ensures.items c.requires.left_in_ring c.requires.right_in_ring
+pub add_merged-requires-clause-fits_right : goal.add_merged-requires-clause-fits_right
+add_merged-requires-clause-fits_right g c =
+    subst (λ w. FitBehind 24 w c.args.right.now) (sym (word_cmp-IsAntisymmetric c.args.a c.args.b (sym c.in-Equal.ensures))) c.requires.fits_right
 
-pub loop-term-preserved : goal.loop-term-preserved
-loop-term-preserved g c =
-    Merging-next (g.R.Ring.has c.args.ring.now) (g.R.Ring.value c.args.ring.now) (g.R.Ring.modulus c.args.ring.now) c.args.a c.args.b c.args.left.now c.args.right.now c.loop-term.terms.items c.loop-term.xs.now c.loop-term.ys.now c.in-Some.term c.push.new.self.items c.in-Some.xs_rest.now c.in-Some.ys_rest.now
-    c.loop-term.invariant c.in-Some.ensures.taken c.in_ok-push.ensures.items
+pub returns-in_ok-add_behind-in-Less-2 : goal.returns-in_ok-add_behind-in-Less-2
+returns-in_ok-add_behind-in-Less-2 g c = record {
+  ok = IsMerged-swapped (g.R.Ring.has c.args.ring.now) (g.R.Ring.value c.args.ring.now) (g.R.Ring.modulus c.args.ring.now) c.args.a c.args.b c.args.left.now c.args.right.now c.add_behind-in-Less.new.terms.items
+      (IsMerged-two (g.R.Ring.has c.args.ring.now) (g.R.Ring.value c.args.ring.now) (g.R.Ring.modulus c.args.ring.now) c.args.b c.args.a c.args.right.now c.args.left.now c.in_ok-terms.terms.items c.add_behind.new.terms.items c.add_behind-in-Less.new.terms.items
+      c.in_ok-terms.ensures.items c.in_ok-add_behind-in-Less.ensures.ok c.in_ok-add_behind-in-Less-2.ensures.ok c.requires.right_in_ring c.requires.left_in_ring);
+}
 
-pub loop-term-smaller : goal.loop-term-smaller
-loop-term-smaller g c = c.in-Some.ensures.taken.shorter
+pub returns-in_ok-add_behind-in-Greater-2 : goal.returns-in_ok-add_behind-in-Greater-2
+returns-in_ok-add_behind-in-Greater-2 g c = record {
+  ok = IsMerged-two (g.R.Ring.has c.args.ring.now) (g.R.Ring.value c.args.ring.now) (g.R.Ring.modulus c.args.ring.now) c.args.a c.args.b c.args.left.now c.args.right.now c.in_ok-terms.terms.items c.add_behind-in-Greater.new.terms.items c.add_behind-in-Greater-2.new.terms.items
+      c.in_ok-terms.ensures.items c.in_ok-add_behind-in-Greater.ensures.ok c.in_ok-add_behind-in-Greater-2.ensures.ok c.requires.left_in_ring c.requires.right_in_ring;
+}
 
-pub split_least-requires : goal.split_least-requires
-split_least-requires g c =
-    let fits = c.loop-term.invariant.within 24 c.requires.fits_left c.requires.fits_right in
-    record { fits_left = fits.1; fits_right = fits.2; left_in_ring = c.loop-term.invariant.left_in; right_in_ring = c.loop-term.invariant.right_in }
-
-pub returns : goal.returns
-returns g c = record {
-  ok = Merging-end (g.R.Ring.has c.args.ring.now) (g.R.Ring.value c.args.ring.now) (g.R.Ring.modulus c.args.ring.now) c.args.a c.args.b c.args.left.now c.args.right.now c.loop-term.terms.items c.loop-term.xs.now c.loop-term.ys.now
-      c.loop-term.invariant c.in_default.ensures.none.0 c.in_default.ensures.none.1;
+pub returns-in_ok-add_merged-in-Equal : goal.returns-in_ok-add_merged-in-Equal
+returns-in_ok-add_merged-in-Equal g c = record {
+  ok = subst (λ w. IsMerged (g.R.Ring.has c.args.ring.now) (g.R.Ring.value c.args.ring.now) (g.R.Ring.modulus c.args.ring.now) c.args.a c.args.left.now w c.args.right.now c.add_merged.new.terms.items) (word_cmp-IsAntisymmetric c.args.a c.args.b (sym c.in-Equal.ensures)) c.in_ok-add_merged-in-Equal.ensures.ok;
 }
