@@ -24,11 +24,13 @@ alternating-interleavings_whole zero = refl
 alternating-interleavings_whole (suc k) = omega (arith, alternating-interleavings (suc k) 0)
 
 -- terms that are binomial numbers times one number
-pub alternating-multiples : (F : ℕ → ℕ → ℕ) (c k i n : ℕ) → k + i ≡ n → ((a b : ℕ) → a + b ≡ n → F a b ≡ interleavings a b * c) → ((alternating F k i).0 ≡ (alternating interleavings k i).0 * c) × ((alternating F k i).1 ≡ (alternating interleavings k i).1 * c)
+pub alternating-multiples : (F : ℕ → ℕ → ℕ) (c k i n : ℕ) → k + i ≡ n → ((a b : ℕ) → a + b ≡ n → F a b ≡ interleavings a b * c)
+    → ((alternating F k i).0 ≡ (alternating interleavings k i).0 * c) × ((alternating F k i).1 ≡ (alternating interleavings k i).1 * c)
 unfolding alternating
 alternating-multiples F c zero i n e is = (is 0 i e, omega arith)
 alternating-multiples F c (suc k) i n e is =
     let r = alternating-multiples F c k (suc i) n (omega arith) is in
     let one = is (suc k) i e in
-    let sum : (interleavings (suc k) i + (alternating interleavings k (suc i)).1) * c ≡ interleavings (suc k) i * c + (alternating interleavings k (suc i)).1 * c = grind arith in
+    let sum : (interleavings (suc k) i + (alternating interleavings k (suc i)).1) * c
+    ≡ interleavings (suc k) i * c + (alternating interleavings k (suc i)).1 * c = grind arith in
     (omega arith, r.0)

@@ -1,5 +1,5 @@
 -- Duality is an involution, keeps the weight, exchanges the letters and keeps admissible words admissible.
-use Rattle.std.proofs.Common.{◌≡◌, suc, Bool, true, false, ◌&&◌, List, [], ◌∷◌, ◌++◌, length, map, reverse, refl, sym, ap, ◌∙◌}
+use Rattle.std.proofs.Common.{◌≡◌, suc, ◌⊎◌, inl, inr, Bool, true, false, ◌&&◌, List, [], ◌∷◌, ◌++◌, length, map, reverse, refl, sym, ap, ◌∙◌}
 use Rattle.std.specs.declared.cmp.Ordering.{Ordering}
 use Rattle.std.specs.declared.cmp.Ordering.TheVariants.{Less, Equal, Greater}
 use Rattle.std.specs.Ordering.{ordering_reverse}
@@ -23,7 +23,8 @@ reverse-first a w = reverse-append (a ∷ []) w
 
 pub map-reverse : (w : List Letter) → map other_letter (reverse w) ≡ reverse (map other_letter w)
 map-reverse [] = refl
-map-reverse (a ∷ w) = ap (map other_letter) (reverse-first a w) ∙ map-append_one (reverse w) a ∙ ap (λ v. v ++ other_letter a ∷ []) (map-reverse w) ∙ sym (reverse-first (other_letter a) (map other_letter w))
+map-reverse (a ∷ w) = ap (map other_letter) (reverse-first a w) ∙ map-append_one (reverse w) a ∙ ap (λ v. v ++ other_letter a ∷ []) (map-reverse w)
+    ∙ sym (reverse-first (other_letter a) (map other_letter w))
 
 map-map : (w : List Letter) → map other_letter (map other_letter w) ≡ w
 map-map [] = refl
@@ -77,3 +78,11 @@ lesser_by-comm u v = lesser_by-turn (word_cmp u v) u v refl ∙ ap (λ o. lesser
 
 pub representative_of-dual_of : (w : List Letter) → representative_of (dual_of w) ≡ representative_of w
 representative_of-dual_of w = ap (λ v. lesser_by (word_cmp (dual_of w) v) (dual_of w) v) (dual_of-dual_of w) ∙ lesser_by-comm (dual_of w) w
+
+lesser_cases : (o : Ordering) (u v : List Letter) → (lesser_by o u v ≡ u) ⊎ (lesser_by o u v ≡ v)
+lesser_cases Less u v = inl refl
+lesser_cases Equal u v = inl refl
+lesser_cases Greater u v = inr refl
+
+pub representative_cases : (w : List Letter) → (representative_of w ≡ w) ⊎ (representative_of w ≡ dual_of w)
+representative_cases w = lesser_cases (word_cmp w (dual_of w)) w (dual_of w)

@@ -18,15 +18,22 @@ prod-empty_second L (a ∷ u) = refl
 one_letter : (a : Letter) → IsLetter shuffle_alphabet (a ∷ [])
 one_letter a = record { covers = refl; some = omega arith; alone = refl }
 
-pub shuffle_of-letters : (a b : Letter) (u v : List Letter) → shuffle_of (a ∷ u) (b ∷ v) ≡ map (λ w. a ∷ w) (shuffle_of u (b ∷ v)) ++ map (λ w. b ∷ w) (shuffle_of (a ∷ u) v)
+pub shuffle_of-letters : (a b : Letter) (u v : List Letter)
+    → shuffle_of (a ∷ u) (b ∷ v) ≡ map (λ w. a ∷ w) (shuffle_of u (b ∷ v)) ++ map (λ w. b ∷ w) (shuffle_of (a ∷ u) v)
 shuffle_of-letters a b u v =
     let limit : ℕ = 1 + length u + (1 + length v) in
-    prod-letters limit shuffle_alphabet (shuffle_laws limit) (a ∷ []) u (b ∷ []) v (record { letter_a = one_letter a; letter_b = one_letter b; covers_u = refl; covers_v = refl; fits = omega arith })
+    prod-letters limit shuffle_alphabet (shuffle_laws limit) (a ∷ []) u (b ∷ []) v
+    (record { letter_a = one_letter a; letter_b = one_letter b; covers_u = refl; covers_v = refl; fits = omega arith })
     ∙ append-nil (map (λ w. a ∷ w) (shuffle_of u (b ∷ v)) ++ map (λ w. b ∷ w) (shuffle_of (a ∷ u) v))
 
-pub stuffle_of-letters : (k l : ℕ) (u v : List Letter) → 0 < k → 0 < l → has_index u ≡ true → has_index v ≡ true → stuffle_of (z_word k ++ u) (z_word l ++ v) ≡ map (λ w. z_word k ++ w) (stuffle_of u (z_word l ++ v)) ++ map (λ w. z_word l ++ w) (stuffle_of (z_word k ++ u) v) ++ map (λ w. z_word (k + l) ++ w) (stuffle_of u v)
+pub stuffle_of-letters : (k l : ℕ) (u v : List Letter) → 0 < k → 0 < l → has_index u ≡ true → has_index v ≡ true
+    → stuffle_of (z_word k ++ u) (z_word l ++ v)
+    ≡ map (λ w. z_word k ++ w) (stuffle_of u (z_word l ++ v)) ++ map (λ w. z_word l ++ w) (stuffle_of (z_word k ++ u) v) ++ map (λ w. z_word (k + l) ++ w)
+    (stuffle_of u v)
 stuffle_of-letters k l u v pk pl cu cv =
     let limit : ℕ = length (z_word k) + length u + (length (z_word l) + length v) in
     let weight : length (z_word k) + length (z_word l) ≡ k + l = omega (arith, length-z_word k, length-z_word l) in
-    prod-letters limit stuffle_alphabet (stuffle_laws limit) (z_word k) u (z_word l) v (record { letter_a = z_is_letter k pk; letter_b = z_is_letter l pl; covers_u = cu; covers_v = cv; fits = omega arith })
-    ∙ ap (λ n. map (λ w. z_word k ++ w) (stuffle_of u (z_word l ++ v)) ++ map (λ w. z_word l ++ w) (stuffle_of (z_word k ++ u) v) ++ map (λ w. z_word n ++ w) (stuffle_of u v)) weight
+    prod-letters limit stuffle_alphabet (stuffle_laws limit) (z_word k) u (z_word l) v
+    (record { letter_a = z_is_letter k pk; letter_b = z_is_letter l pl; covers_u = cu; covers_v = cv; fits = omega arith })
+    ∙ ap (λ n. map (λ w. z_word k ++ w) (stuffle_of u (z_word l ++ v)) ++ map (λ w. z_word l ++ w) (stuffle_of (z_word k ++ u) v) ++ map
+    (λ w. z_word n ++ w) (stuffle_of u v)) weight

@@ -16,3 +16,8 @@ pub mod SameCounts
 pub mod LetterSteps
 pub mod ProductWords
 pub mod RegularWords
+pub mod ListLemmas
+pub mod DepthLemmas
+pub mod WordLemmas
+pub mod ProductDepths
+pub mod WordListLaws

@@ -6,7 +6,8 @@ use Rattle.zeta_model.specs.Modular.{Same}
 
 -- b times n, less one b
 less_one : (n b : ℕ) → 0 < n → b * (n - 1) + b ≡ n * b
-less_one n b h = let e : n ≡ (n - 1) + 1 = omega arith in subst (λ x. b * (n - 1) + b ≡ x * b) (sym e) (omega (arith, add-mul (n - 1) 1 b, mul_comm b (n - 1)))
+less_one n b h = let e : n ≡ (n - 1) + 1 = omega arith in
+    subst (λ x. b * (n - 1) + b ≡ x * b) (sym e) (omega (arith, add-mul (n - 1) 1 b, mul_comm b (n - 1)))
 
 module _ (m : ℕ) where
   pub same-add : (a b c d : ℕ) → Same m a b → Same m c d → Same m (a + c) (b + d)

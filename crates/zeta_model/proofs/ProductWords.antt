@@ -22,10 +22,13 @@ single-other w t other = by (same_word t w) (same_word-one t w)
     by false one = refl
 
 module _ (limit : ℕ) (L : Alphabet) (laws : AlphabetLaws limit L) where
-  none_but : (u v t : Word) → L.covered u ≡ true → L.covered v ≡ true → length u + length v ≤ limit → ((w : Word) → L.covered w ≡ true → length w ≡ length u + length v → t ≡ w → ⊥) → sum_of (prod L u v) t ≡ 0
-  none_but u v t cu cv h other = total_cong limit L laws (λ w. single w t) (λ w. 0) u v cu cv h (λ w c n. single-other w t (other w c n)) ∙ total-zero (prod L u v)
+  none_but : (u v t : Word) → L.covered u ≡ true → L.covered v ≡ true → length u + length v ≤ limit
+      → ((w : Word) → L.covered w ≡ true → length w ≡ length u + length v → t ≡ w → ⊥) → sum_of (prod L u v) t ≡ 0
+  none_but u v t cu cv h other = total_cong limit L laws (λ w. single w t) (λ w. 0) u v cu cv h (λ w c n. single-other w t (other w c n))
+      ∙ total-zero (prod L u v)
 
-  covers_uncovered : (u v t : Word) (b : Bool) → L.covered t ≡ b → L.covered u ≡ true → L.covered v ≡ true → length u + length v ≤ limit → 0 < sum_of (prod L u v) t → L.covered t ≡ true
+  covers_uncovered : (u v t : Word) (b : Bool) → L.covered t ≡ b → L.covered u ≡ true → L.covered v ≡ true → length u + length v ≤ limit
+      → 0 < sum_of (prod L u v) t → L.covered t ≡ true
   covers_uncovered u v t true e cu cv h p = e
   covers_uncovered u v t false e cu cv h p =
       let none : sum_of (prod L u v) t ≡ 0 = none_but u v t cu cv h (λ w c n same. true≢false (sym c ∙ ap L.covered (sym same) ∙ e)) in
@@ -34,7 +37,8 @@ module _ (limit : ℕ) (L : Alphabet) (laws : AlphabetLaws limit L) where
   pub prod-covered : (u v t : Word) → L.covered u ≡ true → L.covered v ≡ true → length u + length v ≤ limit → 0 < sum_of (prod L u v) t → L.covered t ≡ true
   prod-covered u v t cu cv h p = covers_uncovered u v t (L.covered t) refl cu cv h p
 
-  pub length-prod : (u v t : Word) → L.covered u ≡ true → L.covered v ≡ true → length u + length v ≤ limit → 0 < sum_of (prod L u v) t → length t ≡ length u + length v
+  pub length-prod : (u v t : Word) → L.covered u ≡ true → L.covered v ≡ true → length u + length v ≤ limit → 0 < sum_of (prod L u v) t
+      → length t ≡ length u + length v
   length-prod u v t cu cv h p = elim (cases_eq (length t) (length u + length v)) as (λ x. length t ≡ length u + length v) [
     | inl e ↦ e
     | inr ne ↦

@@ -21,7 +21,8 @@ nested_words-zero (t ∷ ts) = ap (λ us. (X ∷ t) ∷ us) (nested_words-zero t
 
 -- the regularisation of y^j x u is the last term of the identity
 pub reg_of-y_word : (m j : ℕ) (u t : List Letter) → reg_of m (y_word j ++ X ∷ u) t ≡ sign_of m j * sum_of (nested_words 0 j u) t
-reg_of-y_word m j u t = ap (λ s. s t) (reg_of-y_word_behind m j (X ∷ u)) ∙ ap (λ ts. sign_of m j * sum_of ts t) (sym (nested_words-zero (shuffle_of (y_word j) u)))
+reg_of-y_word m j u t = ap (λ s. s t) (reg_of-y_word_behind m j (X ∷ u))
+    ∙ ap (λ ts. sign_of m j * sum_of ts t) (sym (nested_words-zero (shuffle_of (y_word j) u)))
 
 pub reg_of-only_y : (m j : ℕ) (t : List Letter) → reg_of m (y_word (suc j)) t ≡ 0
 reg_of-only_y m j t = ap (λ w. reg_of m w t) (plain (suc j)) ∙ ap (λ s. s t) (reg_of-y_word_behind m (suc j) [])

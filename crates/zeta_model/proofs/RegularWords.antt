@@ -17,7 +17,8 @@ use mathlib.Core.Bool.{true≢false}
 abbrev Word : Type 0
 Word = List Letter
 
-total-shuffle_of : (f : Word → ℕ) (a b : Letter) (u v : Word) → total f (shuffle_of (a ∷ u) (b ∷ v)) ≡ total (λ w. f (a ∷ w)) (shuffle_of u (b ∷ v)) + total (λ w. f (b ∷ w)) (shuffle_of (a ∷ u) v)
+total-shuffle_of : (f : Word → ℕ) (a b : Letter) (u v : Word)
+    → total f (shuffle_of (a ∷ u) (b ∷ v)) ≡ total (λ w. f (a ∷ w)) (shuffle_of u (b ∷ v)) + total (λ w. f (b ∷ w)) (shuffle_of (a ∷ u) v)
 total-shuffle_of f a b u v =
     ap (total f) (shuffle_of-letters a b u v)
     ∙ total-append f (map (λ w. a ∷ w) (shuffle_of u (b ∷ v))) (map (λ w. b ∷ w) (shuffle_of (a ∷ u) v))
@@ -35,7 +36,8 @@ EndsAlike-behind : (f g : Word → ℕ) (a : Letter) → EndsAlike f g → EndsA
 EndsAlike-behind f g a e [] c = cc
 EndsAlike-behind f g a e (b ∷ w) c = e (a ∷ b ∷ w) c
 
-ends_cong : (n j : ℕ) (u : Word) (f g : Word → ℕ) → j + length u ≡ n → ends_with_y u ≡ true → EndsAlike f g → total f (shuffle_of (y_word j) u) ≡ total g (shuffle_of (y_word j) u)
+ends_cong : (n j : ℕ) (u : Word) (f g : Word → ℕ) → j + length u ≡ n → ends_with_y u ≡ true → EndsAlike f g
+    → total f (shuffle_of (y_word j) u) ≡ total g (shuffle_of (y_word j) u)
 ends_cong n zero u f g l c e = omega (arith, e u c)
 ends_cong n (suc j) [] f g l c e = cc
 ends_cong zero (suc j) (a ∷ u) f g l c e = absurd (omega arith)
@@ -52,7 +54,9 @@ ends_cong (suc n) (suc j) (a ∷ b ∷ u) f g l c e =
 ends_at : (j : ℕ) (u t : Word) (b : Bool) → ends_with_y t ≡ b → ends_with_y u ≡ true → 0 < sum_of (shuffle_of (y_word j) u) t → ends_with_y t ≡ true
 ends_at j u t true is c p = is
 ends_at j u t false is c p =
-    let none : sum_of (shuffle_of (y_word j) u) t ≡ 0 = ends_cong (j + length u) j u (λ w. single w t) (λ w. 0) refl c (λ w d. single-other w t (λ same. true≢false (sym d ∙ ap ends_with_y (sym same) ∙ is))) ∙ total-zero (shuffle_of (y_word j) u) in
+    let none : sum_of (shuffle_of (y_word j) u) t ≡ 0 =
+    ends_cong (j + length u) j u (λ w. single w t) (λ w. 0) refl c
+    (λ w d. single-other w t (λ same. true≢false (sym d ∙ ap ends_with_y (sym same) ∙ is))) ∙ total-zero (shuffle_of (y_word j) u) in
     absurd (omega arith)
 
 -- a word of x sh(y^j, u)
@@ -74,7 +78,8 @@ regular_word j u (Y ∷ t) c p = absurd (omega (arith, (none_without_x (shuffle_
 regular_word j [] (X ∷ t) c p = cc
 regular_word j (a ∷ u) (X ∷ t) c p =
     let q : 0 < sum_of (shuffle_of (y_word j) (a ∷ u)) t = omega (arith, sum_of-behind_x (shuffle_of (y_word j) (a ∷ u)) t) in
-    let n : length t ≡ length (y_word j) + length (a ∷ u) = length-prod (length (y_word j) + length (a ∷ u)) shuffle_alphabet (shuffle_laws _) (y_word j) (a ∷ u) t refl refl (omega arith) q in
+    let n : length t ≡ length (y_word j) + length (a ∷ u) =
+    length-prod (length (y_word j) + length (a ∷ u)) shuffle_alphabet (shuffle_laws _) (y_word j) (a ∷ u) t refl refl (omega arith) q in
     record { admissible = whole t (ends_at j (a ∷ u) t (ends_with_y t) refl c q); weight = omega (arith, length-y_word j) }
   where
     whole : (t : Word) → ends_with_y t ≡ true → is_admissible (X ∷ t) ≡ true

@@ -47,8 +47,10 @@ module _ (m : ℕ) (pos : 0 < m) where
       let e : i ≡ i + 0 = omega arith in
       let all : suc k ≡ suc k - 0 = omega arith in
       let front : s * F (suc k) i ≡ sign_of m (i + 0) * F (suc k - 0) (i + 0) = λ h. sign_of m (e h) * F (all h) (e h) in
-      let shift : (r : ℕ) → sign_of m (suc i + r) * F (k - r) (suc i + r) ≡ sign_of m (i + suc r) * F (suc k - suc r) (i + suc r) = λ r. let d : suc i + r ≡ i + suc r = omega arith in let c : k - r ≡ suc k - suc r = omega arith in λ h. sign_of m (d h) * F (c h) (d h) in
-      let behind : sum_to k (λ r. sign_of m (suc i + r) * F (k - r) (suc i + r)) ≡ sum_to k (λ r. sign_of m (i + suc r) * F (suc k - suc r) (i + suc r)) = sum_to-cong k _ _ shift in
+      let shift : (r : ℕ) → sign_of m (suc i + r) * F (k - r) (suc i + r) ≡ sign_of m (i + suc r) * F (suc k - suc r) (i + suc r) =
+      λ r. let d : suc i + r ≡ i + suc r = omega arith in let c : k - r ≡ suc k - suc r = omega arith in λ h. sign_of m (d h) * F (c h) (d h) in
+      let behind : sum_to k (λ r. sign_of m (suc i + r) * F (k - r) (suc i + r)) ≡ sum_to k (λ r. sign_of m (i + suc r) * F (suc k - suc r) (i + suc r)) =
+      sum_to-cong k _ _ shift in
       ap (λ x. x % m) apart
       ∙ same-add_left m (s * (m - 1) * t) (sign_of m (suc i) * t) (s * F (suc k) i) (same-mul_right m (s * (m - 1)) (sign_of m (suc i)) t (sign_of-suc i))
       ∙ same-add_left m (sign_of m (suc i) * t) _ (s * F (suc k) i) (sign_of-turning F k (suc i))
@@ -61,7 +63,8 @@ module _ (m : ℕ) (pos : 0 < m) where
       let t : ℕ = turning F j 0 in
       let minus : ℕ = (alternating F j 0).1 in
       let signs : ℕ = sum_to j (λ i. sign_of m i * F (j - i) i) in
-      let shift : (r : ℕ) → sign_of m (0 + r) * F (j - r) (0 + r) ≡ sign_of m r * F (j - r) r = λ r. let d : 0 + r ≡ r = omega arith in λ h. sign_of m (d h) * F (j - r) (d h) in
+      let shift : (r : ℕ) → sign_of m (0 + r) * F (j - r) (0 + r) ≡ sign_of m r * F (j - r) r = λ r. let d : 0 + r ≡ r = omega arith in
+      λ h. sign_of m (d h) * F (j - r) (d h) in
       let one : t ≡ 1 * t = omega arith in
       let same : Same m t signs = ap (λ x. x % m) one ∙ sign_of-turning F j 0 ∙ ap (λ x. x % m) (sum_to-cong j _ _ shift) in
       same-add_right m signs t minus (sym same) ∙ turning-alternating F j 0

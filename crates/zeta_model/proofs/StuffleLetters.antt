@@ -84,10 +84,12 @@ stuffle_laws limit = record {
   covers_rest = λ w c p h. let r = first_of w c p in ap has_index r.2.rest_is ∙ r.2.covers;
   covers_more = λ a w la c h. let r = letter_is_z a la in ap (λ b. has_index (b ++ w)) r.1 ∙ has_index-z_word r.0 w c;
   first_of_more = λ a w la c h. let r = letter_is_z a la in ap (λ b. first_z (b ++ w)) r.1 ∙ first_z-z_word r.0 w ∙ sym r.1;
-  joined_is_letter = λ a b c la lb h e. let same : z_word (length a + length b) ≡ c = cc in let p = la.some in subst (IsLetter stuffle_alphabet) same (z_is_letter (length a + length b) (omega arith));
+  joined_is_letter = λ a b c la lb h e. let same : z_word (length a + length b) ≡ c = cc in let p = la.some in
+      subst (IsLetter stuffle_alphabet) same (z_is_letter (length a + length b) (omega arith));
   joined_length = λ a b c la lb h e. let same : z_word (length a + length b) ≡ c = cc in sym (ap length same) ∙ length-z_word (length a + length b);
   joined_comm = λ a b la lb h. let e : length a + length b ≡ length b + length a = omega arith in ap (λ n. Some (z_word n)) e;
   joined_assoc = λ a b c la lb lc h.
-      let e : length (z_word (length a + length b)) + length c ≡ length a + length (z_word (length b + length c)) = omega (arith, length-z_word (length a + length b), length-z_word (length b + length c)) in
+      let e : length (z_word (length a + length b)) + length c ≡ length a + length (z_word (length b + length c)) =
+      omega (arith, length-z_word (length a + length b), length-z_word (length b + length c)) in
       ap (λ n. Some (z_word n)) e;
 }

@@ -14,7 +14,8 @@ pub word_cmp_total : IsTotalOrder word_cmp
 word_cmp_total = lists_total (on_total letter_rank nat_cmp_total)
 
 letter_cmp-IsAntisymmetric : IsAntisymmetric letter_cmp
-letter_cmp-IsAntisymmetric a b e = sym (letter_at_rank-rank a) ∙ ap letter_at_rank (nat_cmp-IsAntisymmetric (letter_rank a) (letter_rank b) e) ∙ letter_at_rank-rank b
+letter_cmp-IsAntisymmetric a b e =
+    sym (letter_at_rank-rank a) ∙ ap letter_at_rank (nat_cmp-IsAntisymmetric (letter_rank a) (letter_rank b) e) ∙ letter_at_rank-rank b
 
 pub word_cmp-IsAntisymmetric : IsAntisymmetric word_cmp
 word_cmp-IsAntisymmetric = slice_cmp-IsAntisymmetric letter_cmp-IsAntisymmetric

@@ -1,9 +1,11 @@
 pub mod Modular
+pub mod Inverses
 pub mod Words
 pub mod Duality
 pub mod Indices
 pub mod Product
 pub mod Alphabets
 pub mod Sums
+pub mod WordLists
 pub mod Regularise
 pub mod Letters

@@ -1,5 +1,5 @@
 -- Sums of words: functions from words to numbers, which are read modulo m.
-use Rattle.std.specs.Prelude.{ℕ, ◌+◌, ◌-◌, ◌*◌, Bool, cond, List, [], ◌∷◌}
+use Rattle.std.specs.Prelude.{ℕ, ◌+◌, ◌-◌, ◌*◌, Bool, cond, List, [], ◌∷◌, map}
 use Rattle.std.specs.Ordering.{eq_by_cmp}
 use Rattle.zeta_model.specs.declared.Letter.{Letter}
 use Rattle.zeta_model.specs.Modular.{Same}
@@ -42,3 +42,13 @@ SameSum m s r = (t : List Letter) → Same m (s t) (r t)
 abbrev pub continued : (List Letter → Sum) → List (ℕ × List Letter) → Sum
 continued f [] t = 0
 continued f (term ∷ terms) t = term.0 * f term.1 t + continued f terms t
+
+module _ {E : Type 0} where
+  -- each word with the number that its element stands for
+  abbrev pub numbered : (E → ℕ) → List (List Letter × E) → List (ℕ × List Letter)
+  numbered value terms = map (λ term. (value term.1, term.0)) terms
+
+  -- the sum of f over the words of the terms, each times its number
+  abbrev pub weighted : (E → ℕ) → (List Letter → ℕ) → List (List Letter × E) → ℕ
+  weighted value f [] = 0
+  weighted value f (term ∷ terms) = value term.1 * f term.0 + weighted value f terms

@@ -1,19 +1,23 @@
 //! The laws of the algebra. These functions do nothing when they are called: what each one says is its contract, and the check proves it.
-ghost use Rattle.std.specs.Prelude.{◌≡◌, ℕ, ◌+◌, ◌*◌, ◌<◌, ◌≤◌, ◌↔◌, suc, true, List, [], ◌∷◌, ◌++◌, length, map, count_by, All};
+ghost use Rattle.std.specs.Prelude.{◌≡◌, ℕ, ◌+◌, ◌-◌, ◌*◌, ◌<◌, ◌≤◌, ◌↔◌, ◌⊎◌, suc, nat_eq, true, List, [], ◌∷◌, ◌++◌, length, map, count_by, All};
+ghost use Rattle.std.specs.List.{Contains};
+ghost use Rattle.std.specs.List.Sorted.{IsStrictlySortedBy};
 ghost use Rattle.zeta_model.specs.declared.Letter.{Letter};
 ghost use Rattle.zeta_model.specs.declared.Letter.TheVariants.{X};
 ghost use Rattle.zeta_model.specs.Modular.{Same};
-ghost use Rattle.zeta_model.specs.Words.{is_admissible, begins_with_x, ends_with_y, has_index};
+ghost use Rattle.zeta_model.specs.Words.{word_cmp, depth_of, is_admissible, begins_with_x, ends_with_y, has_index};
 ghost use Rattle.zeta_model.specs.Duality.{dual_of, representative_of};
 ghost use Rattle.zeta_model.specs.Indices.{z_word};
 ghost use Rattle.zeta_model.specs.Product.{Alphabet, AlphabetLaws, prod, IsCommutative, IsAssociative, SameWords};
 ghost use Rattle.zeta_model.specs.Alphabets.{shuffle_alphabet, stuffle_alphabet, shuffle_of, stuffle_of};
 ghost use Rattle.zeta_model.specs.Sums.{sum_of, single, zero_sum, same_word, difference, continued};
+ghost use Rattle.zeta_model.specs.WordLists.{admissible_words, admissible_within, binomial, binomial_sum};
 ghost use Rattle.zeta_model.specs.Regularise.{y_word, sign_of, reg_of, reg_of_sum, nested_words, IsRegularised};
 
 /// The product of two words does not depend on their order, nor that of three on how they are grouped, for every
 /// alphabet that meets its laws on words up to a limit, and for words of that total weight. Shuffle and stuffle meet them
-/// for every limit. Each word of a product is covered and has the weights' sum (Hoffman 2000).
+/// for every limit. Each word of a product is covered and has the weights' sum (Hoffman 2000). The words of a shuffle have the
+/// depths' sum, and those of a stuffle no more.
 pub fn product_laws()
     ensures commutes { (limit : ℕ) (L : Alphabet) → AlphabetLaws limit L → IsCommutative limit L }
     ensures associates { (limit : ℕ) (L : Alphabet) → AlphabetLaws limit L → IsAssociative limit L }
@@ -23,6 +27,9 @@ pub fn product_laws()
         → L.covered v ≡ true → length u + length v ≤ limit → 0 < sum_of (prod L u v) t → L.covered t ≡ true }
     ensures weight { (limit : ℕ) (L : Alphabet) → AlphabetLaws limit L → (u v t : List Letter) → L.covered u ≡ true
         → L.covered v ≡ true → length u + length v ≤ limit → 0 < sum_of (prod L u v) t → length t ≡ length u + length v }
+    ensures shuffle_depth { (u v t : List Letter) → 0 < sum_of (shuffle_of u v) t → depth_of t ≡ depth_of u + depth_of v }
+    ensures stuffle_depth { (u v t : List Letter) → has_index u ≡ true → has_index v ≡ true → 0 < sum_of (stuffle_of u v) t
+        → depth_of t ≤ depth_of u + depth_of v }
 {}
 
 /// Shuffle and stuffle by the first letters of their words, as Ihara, Kaneko and Zagier (2006) define them:
@@ -67,11 +74,24 @@ pub fn regularisation_laws()
     ensures empty { (m : ℕ) (t : List Letter) → reg_of m [] t ≡ single [] t }
 {}
 
-/// Duality is an involution that keeps the weight and keeps admissible words admissible. A word and its dual have one
-/// representative.
+/// Duality is an involution that keeps the weight and keeps admissible words admissible, and no others. The depths of a word
+/// and its dual add up to the weight. A word and its dual have one representative, which is one of the two.
 pub fn duality_laws()
     ensures involution { (w : List Letter) → dual_of (dual_of w) ≡ w }
     ensures weight { (w : List Letter) → length (dual_of w) ≡ length w }
+    ensures depth { (w : List Letter) → depth_of (dual_of w) + depth_of w ≡ length w }
     ensures admissible { (w : List Letter) → is_admissible (dual_of w) ≡ is_admissible w }
     ensures representative { (w : List Letter) → representative_of (dual_of w) ≡ representative_of w }
+    ensures either { (w : List Letter) → (representative_of w ≡ w) ⊎ (representative_of w ≡ dual_of w) }
+{}
+
+/// The list of the admissible words of weight `k` up to depth `d` holds these words and no others, and increases. Of weight k and
+/// depth r there are k - 2 over r - 1, so the list has the sum of these numbers for r from 1 to d.
+pub fn word_list_laws()
+    ensures whole { (k d : ℕ) (w : List Letter) → (Contains (admissible_within k d) w
+        ↔ ((is_admissible w ≡ true) × (length w ≡ k) × (depth_of w ≤ d))) }
+    ensures increases { (k d : ℕ) → IsStrictlySortedBy word_cmp (admissible_within k d) }
+    ensures of_depth { (k r : ℕ) → 2 ≤ k → 1 ≤ r
+        → count_by (λ w. nat_eq (depth_of w) r) (admissible_words k) ≡ binomial (k - 2) (r - 1) }
+    ensures count { (k d : ℕ) → 2 ≤ k → length (admissible_within k d) ≡ binomial_sum (k - 2) d }
 {}

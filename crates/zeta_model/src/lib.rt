@@ -2,7 +2,9 @@
 #![tactic(auto)]
 
 pub use duality::{compare, dual, representative};
-pub use laws::{duality_laws, letter_laws, product_laws, regularisation_laws, sum_laws};
+pub use laws::{
+    duality_laws, letter_laws, product_laws, regularisation_laws, sum_laws, word_list_laws,
+};
 pub use product::{shuffle, stuffle};
 pub use regularise::reg_coefficient;
 pub use word_list::WordList;

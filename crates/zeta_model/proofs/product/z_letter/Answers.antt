@@ -5,7 +5,8 @@ use Rattle.zeta_model.specs.Indices.{z_word}
 use Rattle.zeta_model.proofs.product.z_letter.Goals as goal
 
 -- one x more is written, and one less is left
-x_written : (before after : List Letter) (k i : ℕ) → i < k → after ≡ before ++ X ∷ [] → before ++ z_word (k - i + 1) ≡ z_word k → after ++ z_word (k - (i + 1) + 1) ≡ z_word k
+x_written : (before after : List Letter) (k i : ℕ) → i < k → after ≡ before ++ X ∷ [] → before ++ z_word (k - i + 1) ≡ z_word k
+    → after ++ z_word (k - (i + 1) + 1) ≡ z_word k
 x_written before after k i l written whole =
     let n : ℕ = k - (i + 1) in
     let now : n + 1 ≡ suc n = omega arith in

@@ -20,7 +20,8 @@ loop-other-preserved c =
           let is = w.places-is in
           record { counted = omega arith; bounded = omega arith }
       | else-is_same w ↦
-          let none : single c.other-item.result.items c.args.word.now ≡ 0 = tested _ _ _ _ false c.is_same.ensures c.deref.ensures.value w.if-is_same.false in
+          let none : single c.other-item.result.items c.args.word.now ≡ 0 =
+          tested _ _ _ _ false c.is_same.ensures c.deref.ensures.value w.if-is_same.false in
           let is = w.places-is in
           record { counted = omega arith; bounded = omega arith }
     ]
