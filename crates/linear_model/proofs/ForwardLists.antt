@@ -21,22 +21,26 @@ module _ (m n : ℕ) (lead : ℕ → ℕ) (rows : ℕ → ℕ → ℕ) where
 
   module _ (pos : 0 < m) (forward : IsForward m n lead rows) where
     -- the coefficients below b agree where two combinations agree at the leads
-    agree_below : (c d : ℕ → ℕ) → ((i : ℕ) → i < n → Same m (combination n rows c (lead i)) (combination n rows d (lead i))) → (b i : ℕ) → i < b → i < n → Same m (c i) (d i)
+    agree_below : (c d : ℕ → ℕ) → ((i : ℕ) → i < n → Same m (combination n rows c (lead i)) (combination n rows d (lead i))) → (b i : ℕ) → i < b → i < n
+        → Same m (c i) (d i)
     agree_below c d h zero i below l = absurd (omega arith)
     agree_below c d h (suc b) i below l =
-        by_one c ∙ same_term m n (λ k. c k * rows k (lead i)) (λ k. d k * rows k (lead i)) i pos l (λ k lk ne. other (agree_below c d h b) k lk ne (cases_lt k i)) (h i l) ∙ sym (by_one d)
+        by_one c ∙ same_term m n (λ k. c k * rows k (lead i)) (λ k. d k * rows k (lead i)) i pos l
+        (λ k lk ne. other (agree_below c d h b) k lk ne (cases_lt k i)) (h i l) ∙ sym (by_one d)
       where
         by_one : (e : ℕ → ℕ) → Same m (e i) (e i * rows i (lead i))
         by_one e = ap (λ x. x % m) (let t : e i ≡ e i * 1 = omega arith in t) ∙ same-mul_left m 1 _ (e i) (sym (forward.one i l))
 
-        other : ((k : ℕ) → k < b → k < n → Same m (c k) (d k)) → (k : ℕ) → k < n → k ≢ i → ((k < i) ⊎ (i ≤ k)) → Same m (c k * rows k (lead i)) (d k * rows k (lead i))
+        other : ((k : ℕ) → k < b → k < n → Same m (c k) (d k)) → (k : ℕ) → k < n → k ≢ i → ((k < i) ⊎ (i ≤ k))
+            → Same m (c k * rows k (lead i)) (d k * rows k (lead i))
         other ih k lk ne (inl early) = same-mul_right m _ _ _ (ih k (omega arith) lk)
         other ih k lk ne (inr late) = vanish c ∙ sym (vanish d)
           where
             vanish : (e : ℕ → ℕ) → Same m (e k * rows k (lead i)) 0
             vanish e = same-mul_left m _ 0 (e k) (forward.clear k i lk (omega arith)) ∙ ap (λ x. x % m) (omega arith)
 
-    pub coefficients_agree : (c d : ℕ → ℕ) → ((i : ℕ) → i < n → Same m (combination n rows c (lead i)) (combination n rows d (lead i))) → (i : ℕ) → i < n → Same m (c i) (d i)
+    pub coefficients_agree : (c d : ℕ → ℕ) → ((i : ℕ) → i < n → Same m (combination n rows c (lead i)) (combination n rows d (lead i))) → (i : ℕ) → i < n
+        → Same m (c i) (d i)
     coefficients_agree c d h i l = agree_below c d h (suc i) i (omega arith) l
 
     -- two rows of the span that agree at the leads are one
@@ -58,6 +62,7 @@ module _ (m n : ℕ) (lead : ℕ → ℕ) (rows : ℕ → ℕ → ℕ) where
     -- a row lies in the span exactly where its normal form is zero
     pub in_span_iff : (p q : ℕ → ℕ) → IsNormalForm m n lead rows p q → InSpan m n rows p ↔ SameRow m q (λ _. 0)
     in_span_iff p q hq = (
-      λ (c, pc). normal_form_unique p q (λ _. 0) hq (record { zero_at_leads = λ i l. refl; coefficients = c; differs = λ col. pc col ∙ ap (λ x. x % m) (omega arith) }),
+      λ (c, pc). normal_form_unique p q (λ _. 0) hq
+          (record { zero_at_leads = λ i l. refl; coefficients = c; differs = λ col. pc col ∙ ap (λ x. x % m) (omega arith) }),
       λ none. (hq.coefficients, λ col. hq.differs col ∙ same-add_right m _ 0 _ (none col) ∙ ap (λ x. x % m) (omega arith)),
     )

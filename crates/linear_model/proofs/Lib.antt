@@ -5,3 +5,10 @@ pub mod ForwardLists
 pub mod Sweeps
 pub mod ReducedLists
 pub mod ReducedPairs
+pub mod SpanSteps
+pub mod Reducing
+pub mod Combinations
+pub mod Triangular
+pub mod RowSpans
+pub mod NormalForms
+pub mod Inserting

@@ -32,7 +32,8 @@ module _ (m n : ℕ) (lead : ℕ → ℕ) (rows : ℕ → ℕ → ℕ) (reduced 
 
   -- leads rise, so a row at or after place i leads no lower
   pub lead_at_least : (i k : ℕ) → i ≤ k → k < n → lead i ≤ lead k
-  lead_at_least i k h below = elim (cases_eq i k) [ inl e ↦ subst (λ x. lead i ≤ lead x) e (omega arith) | inr ne ↦ omega (arith, reduced.rising i k (omega arith) below) ]
+  lead_at_least i k h below = elim
+      (cases_eq i k) [ inl e ↦ subst (λ x. lead i ≤ lead x) e (omega arith) | inr ne ↦ omega (arith, reduced.rising i k (omega arith) below) ]
 
   -- two rows lead at different columns
   pub lead_apart : (i k : ℕ) → i < n → k < n → i ≢ k → lead i ≢ lead k

@@ -13,12 +13,14 @@ one_not_zero : (m : ℕ) → 1 < m → ¬ (Same m 1 0)
 one_not_zero m h e = let a : 1 % m ≡ 1 = mod-eq_of_lt h in let b : 0 % m ≡ 0 = mod-eq_of_lt (omega arith) in absurd (omega arith)
 
 -- the lead of a reduced row that lies in the span of another reduced list is a lead of that list
-lead_of_row : (m n k : ℕ) (lead other_lead : ℕ → ℕ) (rows others : ℕ → ℕ → ℕ) → 1 < m → IsReduced m n lead rows → IsReduced m k other_lead others → SpanWithin m n rows k others → (i : ℕ) → i < n → (l : ℕ) × (l < k) × (other_lead l ≡ lead i)
+lead_of_row : (m n k : ℕ) (lead other_lead : ℕ → ℕ) (rows others : ℕ → ℕ → ℕ) → 1 < m → IsReduced m n lead rows → IsReduced m k other_lead others
+    → SpanWithin m n rows k others → (i : ℕ) → i < n → (l : ℕ) × (l < k) × (other_lead l ≡ lead i)
 lead_of_row m n k lead other_lead rows others big reduced others_reduced within i h =
     lead_of_span m k other_lead others others_reduced (rows i) (lead i) (within i h)
     (record { before = λ j. reduced.before i j h; here = λ e. one_not_zero m big (sym (reduced.one i h) ∙ e) })
 
-module _ (m n k : ℕ) (lead other_lead : ℕ → ℕ) (rows others : ℕ → ℕ → ℕ) (big : 1 < m) (reduced : IsReduced m n lead rows) (others_reduced : IsReduced m k other_lead others) (spans : SameSpan m n rows k others) where
+module _ (m n k : ℕ) (lead other_lead : ℕ → ℕ) (rows others : ℕ → ℕ
+    → ℕ) (big : 1 < m) (reduced : IsReduced m n lead rows) (others_reduced : IsReduced m k other_lead others) (spans : SameSpan m n rows k others) where
   there : (i : ℕ) → i < n → (l : ℕ) × (l < k) × (other_lead l ≡ lead i)
   there = lead_of_row m n k lead other_lead rows others big reduced others_reduced spans.0
 
@@ -66,19 +68,22 @@ module _ (m n k : ℕ) (lead other_lead : ℕ → ℕ) (rows others : ℕ → �
   leads_agree i h = (agree_below (suc i) i (omega arith) h).1
 
   pub rows_agree : (i : ℕ) → i < n → SameRow m (rows i) (others i)
-  rows_agree i h = same_by_leads m k other_lead others (omega arith) (reduced_is_forward m k other_lead others others_reduced) (rows i) (others i) (spans.0 i h) (row_in_span m k others i inside) (λ l lk. at_lead l lk (cases_eq i l))
+  rows_agree i h = same_by_leads m k other_lead others (omega arith) (reduced_is_forward m k other_lead others others_reduced) (rows i) (others i)
+      (spans.0 i h) (row_in_span m k others i inside) (λ l lk. at_lead l lk (cases_eq i l))
     where
       inside : i < k
       inside = omega (arith, count_at_most)
 
       at_lead : (l : ℕ) → l < k → ((i ≡ l) ⊎ (i ≢ l)) → Same m (rows i (other_lead l)) (others i (other_lead l))
-      at_lead l lk (inl is) = subst (λ x. Same m (rows i (other_lead x)) (others i (other_lead x))) is (subst (λ x. Same m (rows i x) 1) (leads_agree i h) (reduced.one i h) ∙ sym (others_reduced.one i inside))
+      at_lead l lk (inl is) = subst (λ x. Same m (rows i (other_lead x)) (others i (other_lead x))) is
+          (subst (λ x. Same m (rows i x) 1) (leads_agree i h) (reduced.one i h) ∙ sym (others_reduced.one i inside))
       at_lead l lk (inr ne) =
           let found : (t : ℕ) × (t < n) × (lead t ≡ other_lead l) = back l lk in
           let apart : i ≢ found.0 = λ e. lead_apart m k other_lead others others_reduced i l inside lk ne (sym (leads_agree i h) ∙ ap lead e ∙ found.2) in
           subst (λ x. Same m (rows i x) 0) found.2 (reduced.clear i found.0 h found.1 apart) ∙ sym (others_reduced.clear i l inside lk ne)
 
 -- so they have one count
-pub counts_agree : (m n k : ℕ) (lead other_lead : ℕ → ℕ) (rows others : ℕ → ℕ → ℕ) → 1 < m → IsReduced m n lead rows → IsReduced m k other_lead others → SameSpan m n rows k others → n ≡ k
+pub counts_agree : (m n k : ℕ) (lead other_lead : ℕ → ℕ) (rows others : ℕ → ℕ → ℕ) → 1 < m → IsReduced m n lead rows → IsReduced m k other_lead others
+    → SameSpan m n rows k others → n ≡ k
 counts_agree m n k lead other_lead rows others big reduced others_reduced spans =
     omega (arith, count_at_most m n k lead other_lead rows others big reduced others_reduced spans, count_at_most m k n other_lead lead others rows big others_reduced reduced (spans.1, spans.0))

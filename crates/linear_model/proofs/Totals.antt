@@ -51,12 +51,15 @@ module _ (m : ℕ) where
   total_one_term zero f i l h = absurd (omega arith)
   total_one_term (suc n) f i l h =
       elim (cases_eq i n) [
-        | inl e ↦ same-add m (total n f) 0 (f n) (f i) (total_vanishes n f (λ k lk. h k (omega arith) (omega arith))) (ap (λ x. f x % m) (sym e)) ∙ ap (λ x. x % m) (omega arith)
-        | inr ne ↦ same-add m (total n f) (f i) (f n) 0 (total_one_term n f i (omega arith) (λ k lk. h k (omega arith))) (h n (omega arith) (omega arith)) ∙ ap (λ x. x % m) (omega arith)
+        | inl e ↦ same-add m (total n f) 0 (f n) (f i) (total_vanishes n f (λ k lk. h k (omega arith) (omega arith))) (ap (λ x. f x % m) (sym e))
+            ∙ ap (λ x. x % m) (omega arith)
+        | inr ne ↦ same-add m (total n f) (f i) (f n) 0 (total_one_term n f i (omega arith) (λ k lk. h k (omega arith))) (h n (omega arith) (omega arith))
+            ∙ ap (λ x. x % m) (omega arith)
       ]
 
   -- where two sums agree, and all their terms but those at i, these agree too
-  pub same_term : (n : ℕ) (f g : ℕ → ℕ) (i : ℕ) → 0 < m → i < n → ((k : ℕ) → k < n → k ≢ i → Same m (f k) (g k)) → Same m (total n f) (total n g) → Same m (f i) (g i)
+  pub same_term : (n : ℕ) (f g : ℕ → ℕ) (i : ℕ) → 0 < m → i < n → ((k : ℕ) → k < n → k ≢ i → Same m (f k) (g k)) → Same m (total n f) (total n g)
+      → Same m (f i) (g i)
   same_term zero f g i pos l h e = absurd (omega arith)
   same_term (suc n) f g i pos l h e =
       elim (cases_eq i n) [
@@ -67,5 +70,6 @@ module _ (m : ℕ) where
             ap (λ x. f x % m) is ∙ same-cancel m (f n) (g n) (total n f) pos turned ∙ ap (λ x. g x % m) (sym is)
         | inr ne ↦
             let last : Same m (f n) (g n) = h n (omega arith) (omega arith) in
-            same_term n f g i pos (omega arith) (λ k lk. h k (omega arith)) (same-cancel m (total n f) (total n g) (f n) pos (e ∙ same-add_left m (g n) (f n) (total n g) (sym last)))
+            same_term n f g i pos (omega arith) (λ k lk. h k (omega arith))
+            (same-cancel m (total n f) (total n g) (f n) pos (e ∙ same-add_left m (g n) (f n) (total n g) (sym last)))
       ]

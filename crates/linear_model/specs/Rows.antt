@@ -1,5 +1,5 @@
 -- Sums, rows and spans modulo m. A row is a function from columns to numbers; a list of rows is a count n and a function from places to rows.
-use Rattle.std.specs.Prelude.{ℕ, zero, suc, ◌+◌, ◌*◌, ◌<◌}
+use Rattle.std.specs.Prelude.{ℕ, zero, suc, ◌+◌, ◌*◌, ◌<◌, nat_eq, if◌then◌else◌}
 use Rattle.zeta_model.specs.Modular.{Same}
 
 -- f 0 + .. + f (n - 1)
@@ -26,3 +26,7 @@ SpanWithin m n rows k others = (i : ℕ) → i < n → InSpan m k others (rows i
 -- the n rows and the k others have one span
 abbrev pub SameSpan : ℕ → ℕ → (ℕ → ℕ → ℕ) → ℕ → (ℕ → ℕ → ℕ) → Type 0
 SameSpan m n rows k others = SpanWithin m n rows k others × SpanWithin m k others n rows
+
+-- the k rows, and p behind them
+abbrev pub rows_and : ℕ → (ℕ → ℕ → ℕ) → (ℕ → ℕ) → ℕ → ℕ → ℕ
+rows_and k rows p i = if nat_eq i k then p else rows i
