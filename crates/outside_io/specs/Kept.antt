@@ -15,6 +15,7 @@ pub record Counts : Type 0 where
   pub faults : ℕ
   pub starved : ℕ
 
+-- a disk in memory: its moments and its counts
 pub record Kept : Type 0 where
   pub trace : Trace
   pub counts : Counts
@@ -47,6 +48,17 @@ failed c = record c { faults = up c.faults }
 abbrev pub starved : Counts → Counts
 starved c = record (failed c) { starved = up c.starved }
 
--- a change failed exactly where it was to fail or found no memory
-abbrev pub Changes : {T E : Type 0} → Counts → Counts → Result T E → Type 0
-Changes old new result = MatchResult result (λ _. (is_change_refused old ≡ false) × (new ≡ changing old)) (λ _. (IsTrue (is_change_refused old) × (new ≡ failed (changing old))) ⊎ (new ≡ starved (changing old)))
+-- a call found no memory, and left the disk as it was
+abbrev pub Starves : Kept → Kept → Type 0
+Starves old new = (new.trace ≡ old.trace) × (new.counts ≡ starved (changing old.counts))
+
+-- a call was to fail, and left the disk as such a call leaves it
+abbrev pub Breaks : (Trace → Trace) → Kept → Kept → Type 0
+Breaks broken old new = IsTrue (is_change_refused old.counts) × (new.trace ≡ broken old.trace) × (new.counts ≡ failed (changing old.counts))
+
+-- a change failed exactly where it was to fail, and then broke off so, or where it found no memory, and then changed nothing
+abbrev pub Changes : {T E : Type 0} → (Trace → Trace) → Kept → Kept → Result T E → Type 0
+Changes broken old new result =
+    MatchResult result
+    (λ _. (is_change_refused old.counts ≡ false) × (new.counts ≡ changing old.counts))
+    (λ _. Breaks broken old new ⊎ Starves old new)

@@ -3,5 +3,5 @@ pub mod Told
 pub mod Mem
 pub mod Moments
 pub mod Traces
-pub mod Replay
+pub mod Inner
 pub mod Kept

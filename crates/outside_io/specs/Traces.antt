@@ -24,10 +24,13 @@ Breaks half None new = new ≡ None
 Breaks half (Some t) new = (new ≡ Some t) ⊎ ((contents : List ℕ) × (new ≡ Some (step (λ m. half m contents) t)) × IsImage (half t.now contents) contents)
 
 abbrev pub Written : {E : Type 0} → ℕ → List ℕ → Option Trace → Option Trace → Result (Unit {0}) E → Type 0
-Written at bytes old new result = MatchResult result (λ _. new ≡ steps (λ m. writing m at (length bytes) (overlaid m.contents at bytes)) old) (λ _. Breaks (λ m c. writing m at (length bytes) c) old new)
+Written at bytes old new result =
+    MatchResult result (λ _. new ≡ steps (λ m. writing m at (length bytes) (overlaid m.contents at bytes)) old)
+    (λ _. Breaks (λ m c. writing m at (length bytes) c) old new)
 
 abbrev pub CutOff : {E : Type 0} → ℕ → Option Trace → Option Trace → Result (Unit {0}) E → Type 0
-CutOff len old new result = MatchResult result (λ _. new ≡ steps (λ m. cutting m len (take len m.contents)) old) (λ _. Breaks (λ m c. cutting m len c) old new)
+CutOff len old new result = MatchResult result (λ _. new ≡ steps (λ m. cutting m len (take len m.contents)) old)
+    (λ _. Breaks (λ m c. cutting m len c) old new)
 
 -- a sync that failed changed nothing
 abbrev pub Synced : {E : Type 0} → Option Trace → Option Trace → Result (Unit {0}) E → Type 0

@@ -2,7 +2,7 @@
 ghost use Rattle.std.specs.Prelude.{◌≡◌, ◌≤◌, ◌+◌, [], ℕ, List, length, take, IfOk, OnOk, OnErr};
 ghost use Rattle.outside_io.specs.Moments.{IsImage, overlaid, writing, cutting, settled};
 ghost use Rattle.outside_io.specs.Traces.{Trace, step};
-ghost use Rattle.outside_io.specs.Replay.{after_change};
+ghost use Rattle.outside_io.specs.Inner.{after_change};
 
 use std::alloc::{AllocError, Global};
 use std::marker::Model;
@@ -35,7 +35,7 @@ impl Model for History {
     ghost use Rattle.std.specs.Option.{option_map_or};
     ghost use Rattle.outside_io.specs.Moments.{IsImage};
     ghost use Rattle.outside_io.specs.Traces.{Trace};
-    ghost use Rattle.outside_io.specs.Replay.{replay, IsKept};
+    ghost use Rattle.outside_io.specs.Inner.{replay, IsKept};
 
     ghost Value = { Trace };
 

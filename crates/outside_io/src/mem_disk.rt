@@ -1,8 +1,8 @@
 //! A disk in memory, whose calls fail as they are told to.
 ghost use Rattle.std.specs.Prelude.{◌≡◌, ◌≤◌, ◌<◌, [], length, take, drop, min, IfOk, is_err, if◌then◌else◌, false, Some};
 ghost use Rattle.outside_io.specs.Causes.{HasCause};
-ghost use Rattle.outside_io.specs.Moments.{IsImage, settled};
-ghost use Rattle.outside_io.specs.Traces.{Written, CutOff, Synced};
+ghost use Rattle.outside_io.specs.Moments.{IsImage, writing, cutting, settled};
+ghost use Rattle.outside_io.specs.Traces.{step, Written, CutOff, Synced};
 ghost use Rattle.outside_io.specs.Kept.{Kept, Changes, called, is_refused, failed};
 
 use crate::history::History;
@@ -98,7 +98,7 @@ impl Disk for MemDisk {
         ensures written { Written at bytes.now (Some self.old.trace) (Some self.new.trace) result }
         ensures image { IsImage self.new.trace.now self.new.trace.now.contents }
         ensures cause { HasCause self.old.counts.faults self.new.counts.faults result }
-        ensures counts { Changes self.old.counts self.new.counts result }
+        ensures changes { Changes (step (λ m. writing m at (length bytes.now) m.contents)) self.old self.new result }
     {
         let written = match self.script.change() {
             Ok(()) => self.history.write(self.alloc, at, bytes),
@@ -123,7 +123,7 @@ impl Disk for MemDisk {
         ensures cut { CutOff len (Some self.old.trace) (Some self.new.trace) result }
         ensures image { IsImage self.new.trace.now self.new.trace.now.contents }
         ensures cause { HasCause self.old.counts.faults self.new.counts.faults result }
-        ensures counts { Changes self.old.counts self.new.counts result }
+        ensures changes { Changes (step (λ m. cutting m len m.contents)) self.old self.new result }
     {
         let was_cut = match self.script.change() {
             Ok(()) => self.history.cut(self.alloc, len),
@@ -147,7 +147,7 @@ impl Disk for MemDisk {
         ensures synced { Synced (Some self.old.trace) (Some self.new.trace) result }
         ensures image { IsImage self.new.trace.now self.new.trace.now.contents }
         ensures cause { HasCause self.old.counts.faults self.new.counts.faults result }
-        ensures counts { Changes self.old.counts self.new.counts result }
+        ensures changes { Changes (λ t. t) self.old self.new result }
     {
         self.script.change()?;
         match self.history.sync() {

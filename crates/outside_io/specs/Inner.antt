@@ -1,3 +1,4 @@
+-- What single steps of the code answer. No public clause cites these, so a reader need not believe them.
 -- What a record of changes stands for.
 use Rattle.std.specs.Prelude.{◌≡◌, ℕ, List, [], ◌∷◌, length, take}
 use Rattle.outside_io.specs.Moments.{Moment, IsImage, overlaid, writing, cutting, settled}
