@@ -5,7 +5,7 @@ use Rattle.std.proofs.lemmas.List.{append_assoc, append-nil, take_more, take-app
 use Rattle.std.proofs.lemmas.Bool.{cases_lt}
 use Rattle.word_letters.specs.declared.parse.Place.{Place}
 use Rattle.word_letters.specs.declared.parse.Place.TheVariants.{Start, End}
-use Rattle.word_letters.specs.Reading.{place_after, whole_after, read}
+use Rattle.word_letters.specs.Inner.{place_after, whole_after, read}
 use Rattle.word_letters.specs.IndexText.{IsIndexText, IsWellFormed, BeginsText, IsLongestBeginning}
 use Rattle.word_letters.proofs.Reading.{read-append, read-index_text}
 use Rattle.word_letters.proofs.Meaning.{Means, Means-step, BeginsText-of_Means}
@@ -18,10 +18,12 @@ pub record Follows (front : List ℕ) (place : Place) (ks : List ℕ) : Type 0 w
 pub Follows-start : Follows [] Start []
 Follows-start = record { reads = refl; means = (refl, refl) }
 
-read_one : (front : List ℕ) (place : Place) (ks : List ℕ) (b : ℕ) → read Start [] front ≡ Some (place, ks) → read Start [] (front ++ b ∷ []) ≡ option_and_then (λ next. Some (next, whole_after place b ks)) (place_after place b)
+read_one : (front : List ℕ) (place : Place) (ks : List ℕ) (b : ℕ) → read Start [] front ≡ Some (place, ks)
+    → read Start [] (front ++ b ∷ []) ≡ option_and_then (λ next. Some (next, whole_after place b ks)) (place_after place b)
 read_one front place ks b e = read-append Start [] front (b ∷ []) ∙ ap (option_and_then (λ s. read s.0 s.1 (b ∷ []))) e
 
-pub Follows-step : (front : List ℕ) (place q : Place) (ks : List ℕ) (b : ℕ) → Follows front place ks → place_after place b ≡ Some q → Follows (front ++ b ∷ []) q (whole_after place b ks)
+pub Follows-step : (front : List ℕ) (place q : Place) (ks : List ℕ) (b : ℕ) → Follows front place ks → place_after place b ≡ Some q
+    → Follows (front ++ b ∷ []) q (whole_after place b ks)
 Follows-step front place q ks b f e =
     record {
       reads = read_one front place ks b f.reads ∙ ap (option_and_then (λ next. Some (next, whole_after place b ks))) e;
@@ -29,10 +31,13 @@ Follows-step front place q ks b f e =
     }
 
 -- a byte that may not stand is in no text behind them
-no_text : (front : List ℕ) (place : Place) (ks : List ℕ) (b : ℕ) → Follows front place ks → place_after place b ≡ None → (rest : List ℕ) → IsWellFormed ((front ++ b ∷ []) ++ rest) → ⊥
+no_text : (front : List ℕ) (place : Place) (ks : List ℕ) (b : ℕ) → Follows front place ks → place_after place b ≡ None → (rest : List ℕ)
+    → IsWellFormed ((front ++ b ∷ []) ++ rest) → ⊥
 no_text front place ks b f e rest (ms, t) =
-    let failed : read Start [] (front ++ b ∷ []) ≡ None = read_one front place ks b f.reads ∙ ap (option_and_then (λ next. Some (next, whole_after place b ks))) e in
-    let all : read Start [] ((front ++ b ∷ []) ++ rest) ≡ None = read-append Start [] (front ++ b ∷ []) rest ∙ ap (option_and_then (λ s. read s.0 s.1 rest)) failed in
+    let failed : read Start [] (front ++ b ∷ []) ≡ None =
+    read_one front place ks b f.reads ∙ ap (option_and_then (λ next. Some (next, whole_after place b ks))) e in
+    let all : read Start [] ((front ++ b ∷ []) ++ rest) ≡ None =
+    read-append Start [] (front ++ b ∷ []) rest ∙ ap (option_and_then (λ s. read s.0 s.1 rest)) failed in
     let whole : read Start [] ((front ++ b ∷ []) ++ rest) ≡ Some (End, ms) = read-index_text _ ms t in
     let N : Option (Place × List ℕ) = None in
     let both : N ≡ Some (End, ms) = sym all ∙ whole in
@@ -45,14 +50,18 @@ take_take (suc i) (suc n) [] h = refl
 take_take (suc i) (suc n) (b ∷ bytes) h = ap (λ t. b ∷ t) (take_take i n bytes (omega arith))
 
 -- a prefix that is longer than i has the byte at i
-longer : (bytes : List ℕ) (i n b : ℕ) → i < n → i < length bytes → get_or bytes i 0 ≡ b → take n bytes ≡ (take i bytes ++ b ∷ []) ++ drop (i + 1) (take n bytes)
+longer : (bytes : List ℕ) (i n b : ℕ) → i < n → i < length bytes → get_or bytes i 0 ≡ b
+    → take n bytes ≡ (take i bytes ++ b ∷ []) ++ drop (i + 1) (take n bytes)
 longer bytes i n b h l e =
-    sym (take-append-drop (i + 1) (take n bytes)) ∙ ap (λ t. t ++ drop (i + 1) (take n bytes)) (take_take (i + 1) n bytes (omega arith) ∙ take_more bytes i 0 l ∙ ap (λ c. take i bytes ++ c ∷ []) e)
+    sym (take-append-drop (i + 1) (take n bytes))
+    ∙ ap (λ t. t ++ drop (i + 1) (take n bytes)) (take_take (i + 1) n bytes (omega arith) ∙ take_more bytes i 0 l ∙ ap (λ c. take i bytes ++ c ∷ []) e)
 
-module _ (bytes : List ℕ) (i b : ℕ) (place : Place) (ks : List ℕ) (f : Follows (take i bytes) place ks) (l : i < length bytes) (at : get_or bytes i 0 ≡ b) (e : place_after place b ≡ None) where
+module _ (bytes : List ℕ) (i b : ℕ) (place : Place) (ks : List ℕ) (f : Follows (take i bytes) place ks) (l : i < length bytes) (at : get_or bytes i 0 ≡ b)
+    (e : place_after place b ≡ None) where
   begins_no_more : (n : ℕ) → i < n → BeginsText (take n bytes) → ⊥
   begins_no_more n h (rest, t) =
-      let back : take n bytes ++ rest ≡ (take i bytes ++ b ∷ []) ++ (drop (i + 1) (take n bytes) ++ rest) = ap (λ t. t ++ rest) (longer bytes i n b h l at) ∙ append_assoc (take i bytes ++ b ∷ []) (drop (i + 1) (take n bytes)) rest in
+      let back : take n bytes ++ rest ≡ (take i bytes ++ b ∷ []) ++ (drop (i + 1) (take n bytes) ++ rest) =
+      ap (λ t. t ++ rest) (longer bytes i n b h l at) ∙ append_assoc (take i bytes ++ b ∷ []) (drop (i + 1) (take n bytes)) rest in
       no_text (take i bytes) place ks b f e (drop (i + 1) (take n bytes) ++ rest) (subst IsWellFormed back t)
 
   not_longer : (n : ℕ) → n ≤ length bytes → BeginsText (take n bytes) → n ≤ i

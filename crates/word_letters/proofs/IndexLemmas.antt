@@ -1,14 +1,15 @@
 -- An index with no zero and its word determine each other, and so do a word that has an index and its text.
 use Rattle.std.proofs.Common.{◌≡◌, ℕ, zero, suc, ◌+◌, ◌<◌, ◌≤◌, true, List, [], ◌∷◌, ◌++◌, length, sum, All, refl, sym, ap, ◌∙◌, arith, Option, Some, None, subst}
-use Rattle.std.specs.Prelude.{if◌then◌else◌}
 use Rattle.std.proofs.lemmas.List.{length-append}
 use Rattle.std.proofs.lemmas.List.Elements.{All-nil, All-cons, All-head, All-tail}
-use Rattle.std.proofs.lemmas.List.Sums.{sum_by-cons, sum_by-append}
+use Rattle.std.proofs.lemmas.List.Sums.{sum_by-cons}
 use Rattle.std.proofs.lemmas.List.Concat.{flat_map-cons}
 use Rattle.zeta_model.specs.declared.Letter.{Letter}
 use Rattle.zeta_model.specs.declared.Letter.TheVariants.{X, Y}
-use Rattle.zeta_model.specs.Words.{depth_of, is_y, ends_with_y, has_index}
+use Rattle.zeta_model.specs.Words.{depth_of, ends_with_y, has_index}
 use Rattle.zeta_model.specs.Indices.{z_word, word_of_index, index_from, index_of, word_text}
+use Rattle.zeta_model.proofs.DepthLemmas.{depth_of-append, depth_of-z_word}
+pub use Rattle.zeta_model.proofs.WordLemmas.{has_index-ends}
 use Rattle.word_letters.specs.declared.parse.Place.{Place}
 use Rattle.word_letters.specs.declared.parse.Place.TheVariants.{End}
 use Rattle.word_letters.specs.IndexText.{IsIndexText}
@@ -20,25 +21,29 @@ word_of_index-cons k ks = flat_map-cons z_word k ks
 
 pub length-word_of_index : (ks : List ℕ) → length (word_of_index ks) ≡ sum ks
 length-word_of_index [] = refl
-length-word_of_index (k ∷ ks) = omega (arith, ap length (word_of_index-cons k ks), length-append (z_word k) (word_of_index ks), length-z_word k, length-word_of_index ks, sum_by-cons (λ j. j) k ks)
-
-pub depth_of-cons : (a : Letter) (w : List Letter) → depth_of (a ∷ w) ≡ (if is_y a then 1 else 0) + depth_of w
-depth_of-cons a w = sum_by-cons (λ b. if is_y b then 1 else 0) a w
-
-pub depth_of-append : (u v : List Letter) → depth_of (u ++ v) ≡ depth_of u + depth_of v
-depth_of-append u v = sum_by-append (λ b. if is_y b then 1 else 0) u v
-
-pub depth_of-z_word : (k : ℕ) → 0 < k → depth_of (z_word k) ≡ 1
-depth_of-z_word zero h = absurd (omega arith)
-depth_of-z_word (suc zero) h = omega (arith, depth_of-cons Y [])
-depth_of-z_word (suc (suc k)) h = omega (arith, depth_of-cons X (z_word (suc k)), depth_of-z_word (suc k) (omega arith))
+length-word_of_index (k ∷ ks) = omega (
+  arith,
+  ap length (word_of_index-cons k ks),
+  length-append (z_word k) (word_of_index ks),
+  length-z_word k,
+  length-word_of_index ks,
+  sum_by-cons
+      (λ j. j) k ks,
+)
 
 pub depth_of-word_of_index : (ks : List ℕ) → All (λ k. 0 < k) ks → depth_of (word_of_index ks) ≡ length ks
 depth_of-word_of_index [] h = refl
 depth_of-word_of_index (k ∷ ks) h =
     let some : 0 < k = All-head (λ j. 0 < j) k ks h in
     let rest : All (λ j. 0 < j) ks = All-tail (λ j. 0 < j) k ks h in
-    omega (arith, ap depth_of (word_of_index-cons k ks), depth_of-append (z_word k) (word_of_index ks), depth_of-z_word k some, depth_of-word_of_index ks rest)
+    omega (
+      arith,
+      ap depth_of (word_of_index-cons k ks),
+      depth_of-append (z_word k)
+          (word_of_index ks),
+      depth_of-z_word k some,
+      depth_of-word_of_index ks rest,
+    )
 
 -- a word behind z_k gives the index that begins with k
 index_from-z_word : (j k : ℕ) (w : List Letter) → index_from j (z_word (suc k) ++ w) ≡ (j + k) ∷ index_from 1 w
@@ -54,6 +59,11 @@ index_of-word_of_index (suc k ∷ ks) h =
     let rest : All (λ j. 0 < j) ks = All-tail (λ j. 0 < j) (suc k) ks h in
     let e : 1 + k ≡ suc k = omega arith in
     ap index_of (word_of_index-cons (suc k) ks) ∙ index_from-z_word 1 k (word_of_index ks) ∙ (λ i. e i ∷ index_of-word_of_index ks rest i)
+
+pub positive-index_from : (k : ℕ) (w : List Letter) → 0 < k → All (λ n. 0 < n) (index_from k w)
+positive-index_from k [] h = All-nil (λ n. 0 < n)
+positive-index_from k (X ∷ w) h = positive-index_from (k + 1) w (omega arith)
+positive-index_from k (Y ∷ w) h = All-cons (λ n. 0 < n) k (index_from 1 w) h (positive-index_from 1 w (omega arith))
 
 -- k letters x before a word
 behind_x : ℕ → List Letter → List Letter
@@ -90,11 +100,6 @@ word_of_index-index_of (a ∷ w) h = word_of_index-from 0 (a ∷ w) h
 pub index_of-injective : (u v : List Letter) → has_index u ≡ true → has_index v ≡ true → index_of u ≡ index_of v → u ≡ v
 index_of-injective u v hu hv e = sym (word_of_index-index_of u hu) ∙ ap word_of_index e ∙ word_of_index-index_of v hv
 
--- a word that ends with y has an index
-pub has_index-ends : (w : List Letter) → ends_with_y w ≡ true → has_index w ≡ true
-has_index-ends [] e = refl
-has_index-ends (a ∷ w) e = e
-
 AreSmall-index_from : (k : ℕ) (w : List Letter) → k + length w ≤ 9999 → All (λ n. n ≤ 9999) (index_from k w)
 AreSmall-index_from k [] h = All-nil (λ n. n ≤ 9999)
 AreSmall-index_from k (X ∷ w) h = AreSmall-index_from (k + 1) w (omega arith)
@@ -114,7 +119,8 @@ IsIndexText-word_text w h e =
 one_text : (u v : List Letter) → length u ≤ 24 → length v ≤ 24 → ends_with_y u ≡ true → ends_with_y v ≡ true → word_text u ≡ word_text v → u ≡ v
 one_text u v hu hv eu ev e =
     let second : IsIndexText (word_text u) (index_of v) = subst (λ t. IsIndexText t (index_of v)) (sym e) (IsIndexText-word_text v hv ev) in
-    index_of-injective u v (has_index-ends u eu) (has_index-ends v ev) (index_text-injective (word_text u) (index_of u) (index_of v) (IsIndexText-word_text u hu eu) second)
+    index_of-injective u v (has_index-ends u eu) (has_index-ends v ev)
+    (index_text-injective (word_text u) (index_of u) (index_of v) (IsIndexText-word_text u hu eu) second)
 
 -- `z()` is not the text of a word that ends with y
 empty_text : (v : List Letter) → length v ≤ 24 → ends_with_y v ≡ true → word_text [] ≡ word_text v → ⊥

@@ -10,7 +10,7 @@ use Rattle.std.specs.Fmt.{decimal}
 use Rattle.zeta_model.specs.declared.Letter.{Letter}
 use Rattle.zeta_model.specs.declared.Letter.TheVariants.{X, Y}
 use Rattle.zeta_model.specs.Indices.{index_from, word_of_index, z_word}
-use Rattle.word_letters.specs.Text.{part_text}
+use Rattle.word_letters.specs.Inner.{part_text}
 
 -- one more part at the end of a joined list
 pub join-push : (c : ℕ) (xs : List (List ℕ)) (x : List ℕ) → 0 < length xs → join_with_byte c (xs ++ x ∷ []) ≡ join_with_byte c xs ++ (c ∷ x)
@@ -59,31 +59,40 @@ module _ (ks : List ℕ) (i : ℕ) (p : 0 < i) (h : i ≤ length ks) where
   pub weight-down : (w : List Letter) → length w ≡ sum (drop i ks) → length (z_word (get_or ks (i - 1) 0) ++ w) ≡ sum (drop (i - 1) ks)
   weight-down w e = omega (arith, length-append (z_word (get_or ks (i - 1) 0)) w, length-z_word (get_or ks (i - 1) 0), sum-down)
 
-pub read-x : (done : List ℕ) (k k' i : ℕ) (w : List Letter) (whole : List ℕ) → k' ≡ k + 1 → slice_get w i ≡ Some X → done ++ index_from k (drop i w) ≡ whole → done ++ index_from k' (drop (i + 1) w) ≡ whole
+pub read-x : (done : List ℕ) (k k' i : ℕ) (w : List Letter) (whole : List ℕ) → k' ≡ k + 1 → slice_get w i ≡ Some X → done ++ index_from k (drop i w) ≡ whole
+    → done ++ index_from k' (drop (i + 1) w) ≡ whole
 read-x done k k' i w whole ek e h =
     let next : suc i ≡ i + 1 = omega arith in
     (λ j. done ++ (ap (λ n. index_from n (drop (i + 1) w)) ek ∙ ap (λ n. index_from (k + 1) (drop n w)) (sym next) ∙ sym (index-step_x k i w e)) j) ∙ h
 
-pub read-y : (done done' : List ℕ) (k k' i : ℕ) (w : List Letter) (whole : List ℕ) → done' ≡ done ++ k ∷ [] → k' ≡ 1 → slice_get w i ≡ Some Y → done ++ index_from k (drop i w) ≡ whole → done' ++ index_from k' (drop (i + 1) w) ≡ whole
+pub read-y : (done done' : List ℕ) (k k' i : ℕ) (w : List Letter) (whole : List ℕ) → done' ≡ done ++ k ∷ [] → k' ≡ 1 → slice_get w i ≡ Some Y
+    → done ++ index_from k (drop i w) ≡ whole → done' ++ index_from k' (drop (i + 1) w) ≡ whole
 read-y done done' k k' i w whole ed ek e h =
     let next : suc i ≡ i + 1 = omega arith in
-    (λ j. ed j ++ (ap (λ n. index_from n (drop (i + 1) w)) ek ∙ ap (λ n. index_from 1 (drop n w)) (sym next)) j) ∙ append_assoc done (k ∷ []) (index_from 1 (drop (suc i) w)) ∙ ap (λ t. done ++ t) (sym (index-step_y k i w e)) ∙ h
+    (λ j. ed j ++ (ap (λ n. index_from n (drop (i + 1) w)) ek ∙ ap (λ n. index_from 1 (drop n w)) (sym next)) j)
+    ∙ append_assoc done (k ∷ []) (index_from 1 (drop (suc i) w)) ∙ ap (λ t. done ++ t) (sym (index-step_y k i w e)) ∙ h
 
 -- one more part of the text
 text-first : (front ks : List ℕ) (d : ℕ) → 0 < length ks → (front ++ []) ++ decimal (get_or ks 0 d) ≡ front ++ join_with_byte 44 (map decimal (take 1 ks))
 text-first front [] d h = absurd (omega arith)
 text-first front (k ∷ ks) d h = ap (λ f. f ++ decimal k) (append-nil front)
 
-text-later : (front : List ℕ) (ks : List ℕ) (i d : ℕ) → 0 < i → i < length ks → (front ++ join_with_byte 44 (map decimal (take i ks))) ++ (44 ∷ decimal (get_or ks i d)) ≡ front ++ join_with_byte 44 (map decimal (take (i + 1) ks))
+text-later : (front : List ℕ) (ks : List ℕ) (i d : ℕ) → 0 < i → i < length ks
+    → (front ++ join_with_byte 44 (map decimal (take i ks))) ++ (44 ∷ decimal (get_or ks i d)) ≡ front ++ join_with_byte 44 (map decimal (take (i + 1) ks))
 text-later front ks i d p h =
     let long : 0 < length (map decimal (take i ks)) = simp (length-map, length-take) (omega arith) in
-    let more : map decimal (take (i + 1) ks) ≡ map decimal (take i ks) ++ decimal (get_or ks i d) ∷ [] = ap (map decimal) (take_more ks i d h) ∙ map-append decimal (take i ks) (get_or ks i d ∷ []) in
-    append_assoc front _ (44 ∷ decimal (get_or ks i d)) ∙ ap (λ t. front ++ t) (sym (ap (join_with_byte 44) more ∙ join-push 44 (map decimal (take i ks)) (decimal (get_or ks i d)) long))
+    let more : map decimal (take (i + 1) ks) ≡ map decimal (take i ks) ++ decimal (get_or ks i d) ∷ [] =
+    ap (map decimal) (take_more ks i d h) ∙ map-append decimal (take i ks) (get_or ks i d ∷ []) in
+    append_assoc front _ (44 ∷ decimal (get_or ks i d))
+    ∙ ap (λ t. front ++ t) (sym (ap (join_with_byte 44) more ∙ join-push 44 (map decimal (take i ks)) (decimal (get_or ks i d)) long))
 
 not_first : (i : ℕ) → 0 < i → eqb i 0 ≡ false
 not_first i h = grind (arith, nat_tests)
 
-pub text-more : (front : List ℕ) (ks : List ℕ) (i d : ℕ) → i < length ks → (front ++ join_with_byte 44 (map decimal (take i ks))) ++ part_text (eqb i 0) (get_or ks i d) ≡ front ++ join_with_byte 44 (map decimal (take (i + 1) ks))
+pub text-more : (front : List ℕ) (ks : List ℕ) (i d : ℕ) → i < length ks
+    → (front ++ join_with_byte 44 (map decimal (take i ks))) ++ part_text (eqb i 0) (get_or ks i d)
+    ≡ front ++ join_with_byte 44 (map decimal (take (i + 1) ks))
 text-more front ks zero d h = text-first front ks d h
 text-more front ks (suc i) d h =
-    ap (λ b. (front ++ join_with_byte 44 (map decimal (take (suc i) ks))) ++ part_text b (get_or ks (suc i) d)) (not_first (suc i) (omega arith)) ∙ text-later front ks (suc i) d (omega arith) h
+    ap (λ b. (front ++ join_with_byte 44 (map decimal (take (suc i) ks))) ++ part_text b (get_or ks (suc i) d)) (not_first (suc i) (omega arith))
+    ∙ text-later front ks (suc i) d (omega arith) h

@@ -5,7 +5,7 @@ use Rattle.zeta_model.specs.declared.Letter.{Letter}
 use Rattle.zeta_model.specs.Indices.{z_word}
 use Rattle.word_letters.specs.declared.parse.Place.{Place}
 use Rattle.word_letters.specs.declared.parse.Place.TheVariants.{Start}
-use Rattle.word_letters.specs.Reading.{place_after, whole_number, zero_after, whole_after}
+use Rattle.word_letters.specs.Inner.{place_after, whole_number, zero_after, whole_after}
 use Rattle.word_letters.proofs.Following.{Follows, Follows-start, Follows-step}
 use Rattle.word_letters.proofs.Totals.{Totals, Totals-start, Totals-push, whole_after-same, EndsNumber-from}
 
@@ -18,7 +18,8 @@ pub record Kept (bytes : List ℕ) (i : ℕ) (place : Place) (weight : ℕ) (zer
 pub Kept-start : (bytes : List ℕ) → Kept bytes 0 Start 0 None []
 Kept-start bytes = record { numbers = []; follows = Follows-start; totals = Totals-start; room = omega arith }
 
-module _ (bytes : List ℕ) (i b : ℕ) (place q : Place) (weight : ℕ) (zero' : Option ℕ) (w : List Letter) (k : Kept bytes i place weight zero' w) (l : i < length bytes) (at : get_or bytes i 0 ≡ b) (e : place_after place b ≡ Some q) where
+module _ (bytes : List ℕ) (i b : ℕ) (place q : Place) (weight : ℕ) (zero' : Option ℕ) (w : List Letter) (k : Kept bytes i place weight zero' w)
+    (l : i < length bytes) (at : get_or bytes i 0 ≡ b) (e : place_after place b ≡ Some q) where
   follows_more : Follows (take (i + 1) bytes) q (whole_after place b k.numbers)
   follows_more =
       let more : take (i + 1) bytes ≡ take i bytes ++ b ∷ [] = take_more bytes i 0 l ∙ ap (λ c. take i bytes ++ c ∷ []) at in
@@ -51,17 +52,20 @@ module _ (bytes : List ℕ) (i b : ℕ) (place q : Place) (weight : ℕ) (zero' 
         record {
           numbers = whole_after place b k.numbers;
           follows = follows_more;
-          totals = subst (λ ks. Totals ks (weight + m) (zero_after zero' i m) w') (sym ends.whole) (Totals-push k.numbers m i weight zero' w w' k.totals (length_i ∙ ap length ends.text) h);
+          totals = subst (λ ks. Totals ks (weight + m) (zero_after zero' i m) w') (sym ends.whole)
+              (Totals-push k.numbers m i weight zero' w w' k.totals (length_i ∙ ap length ends.text) h);
           room = omega (arith, ends.small);
         }
 
 -- the same fact of other names of the values
-pub Kept-along : (bytes : List ℕ) (i : ℕ) (p q : Place) (m n : ℕ) (y z : Option ℕ) (v w : List Letter) → q ≡ p → n ≡ m → z ≡ y → w ≡ v → Kept bytes i p m y v → Kept bytes i q n z w
+pub Kept-along : (bytes : List ℕ) (i : ℕ) (p q : Place) (m n : ℕ) (y z : Option ℕ) (v w : List Letter) → q ≡ p → n ≡ m → z ≡ y → w ≡ v
+    → Kept bytes i p m y v → Kept bytes i q n z w
 Kept-along bytes i p q m n y z v w ep em ey ev k =
     record {
       numbers = k.numbers;
       follows = subst (λ r. Follows (take i bytes) r k.numbers) (sym ep) k.follows;
       totals =
-          subst (λ r. Totals k.numbers r z w) (sym em) (subst (λ r. Totals k.numbers m r w) (sym ey) (subst (λ r. Totals k.numbers m y r) (sym ev) k.totals));
+          subst (λ r. Totals k.numbers r z w) (sym em)
+          (subst (λ r. Totals k.numbers m r w) (sym ey) (subst (λ r. Totals k.numbers m y r) (sym ev) k.totals));
       room = let room = k.room in omega arith;
     }

@@ -1,9 +1,13 @@
 pub mod Packings
+pub mod PartNumbers
 pub mod Ends
 pub mod Indices
 pub mod IndexLemmas
+pub mod IndexTexts
 pub mod Reading
 pub mod Meaning
 pub mod Following
 pub mod Totals
 pub mod Kept
+pub mod FilterLemmas
+pub mod AdmissibleWords

@@ -10,7 +10,7 @@ use Rattle.std.proofs.lemmas.List.Elements.{All-head, All-tail}
 use Rattle.std.proofs.lemmas.Bool.Decides.{nat_tests}
 use Rattle.word_letters.specs.declared.parse.Place.{Place}
 use Rattle.word_letters.specs.declared.parse.Place.TheVariants.{Start, Number, Digits, End}
-use Rattle.word_letters.specs.Reading.{is_digit, place_after, whole_after, read}
+use Rattle.word_letters.specs.Inner.{is_digit, place_after, whole_after, read}
 use Rattle.word_letters.specs.IndexText.{IsIndexText}
 
 pub is_digit-true : (b : ℕ) → 48 ≤ b → b ≤ 57 → is_digit b ≡ true
@@ -28,7 +28,8 @@ eq-false a b h = grind (arith, nat_tests)
 pub read-append : (place : Place) (ks bs cs : List ℕ) → read place ks (bs ++ cs) ≡ option_and_then (λ s. read s.0 s.1 cs) (read place ks bs)
 read-append place ks [] cs = refl
 read-append place ks (b ∷ bs) cs =
-    elim (place_after place b) as (λ o. option_and_then (λ next. read next (whole_after place b ks) (bs ++ cs)) o ≡ option_and_then (λ s. read s.0 s.1 cs) (option_and_then (λ next. read next (whole_after place b ks) bs) o)) [
+    elim (place_after place b) as (λ o. option_and_then (λ next. read next (whole_after place b ks) (bs ++ cs)) o
+    ≡ option_and_then (λ s. read s.0 s.1 cs) (option_and_then (λ next. read next (whole_after place b ks) bs) o)) [
       | None ↦ refl
       | Some next ↦ read-append next (whole_after place b ks) bs cs
     ]
@@ -44,7 +45,8 @@ read-decimal ks n h =
         let value : 48 + m - 48 ≡ m = omega arith in
         λ i. option_and_then (λ next. read next ks cs) (if digit i then Some (Digits (value i)) else None)
 
-    more : (m : ℕ) (ds : List ℕ) → 10 ≤ m → (m / 10 ≤ 9999 → (cs : List ℕ) → read Number ks (ds ++ cs) ≡ read (Digits (m / 10)) ks cs) → m ≤ 9999 → (cs : List ℕ) → read Number ks ((ds ++ (48 + m % 10) ∷ []) ++ cs) ≡ read (Digits m) ks cs
+    more : (m : ℕ) (ds : List ℕ) → 10 ≤ m → (m / 10 ≤ 9999 → (cs : List ℕ) → read Number ks (ds ++ cs) ≡ read (Digits (m / 10)) ks cs) → m ≤ 9999
+        → (cs : List ℕ) → read Number ks ((ds ++ (48 + m % 10) ∷ []) ++ cs) ≡ read (Digits m) ks cs
     more m ds big before h cs =
         let comma : (48 + m % 10 == 44) ≡ false = eq-false (48 + m % 10) 44 (omega arith) in
         let close : (48 + m % 10 == 41) ≡ false = eq-false (48 + m % 10) 41 (omega arith) in
@@ -52,15 +54,20 @@ read-decimal ks n h =
         let some : nat_lt 0 (m / 10) ≡ true = lt-true 0 (m / 10) (omega arith) in
         let short : nat_le (m / 10) 999 ≡ true = le-true (m / 10) 999 (omega arith) in
         let value : m / 10 * 10 + (48 + m % 10 - 48) ≡ m = omega arith in
-        ap (read Number ks) (append_assoc ds ((48 + m % 10) ∷ []) cs) ∙ before (omega arith) ((48 + m % 10) ∷ cs) ∙ (λ i. option_and_then (λ next. read next (if digit i then ks else ks ++ m / 10 ∷ []) cs) (if comma i then Some Number else (if close i then Some End else (if digit i && (some i && short i) then Some (Digits (value i)) else None))))
+        ap (read Number ks) (append_assoc ds ((48 + m % 10) ∷ []) cs) ∙ before (omega arith) ((48 + m % 10) ∷ cs)
+        ∙ (λ i. option_and_then (λ next. read next (if digit i then ks else ks ++ m / 10 ∷ []) cs)
+        (if comma i then Some Number else (if close i then Some End else (if digit i && (some i && short i) then Some (Digits (value i)) else None))))
 
-read-numbers : (ks : List ℕ) (k : ℕ) (ms : List ℕ) → All (λ n. n ≤ 9999) (k ∷ ms) → read Number ks (join_with_byte 44 (map decimal (k ∷ ms)) ++ codes ")") ≡ Some (End, ks ++ k ∷ ms)
+read-numbers : (ks : List ℕ) (k : ℕ) (ms : List ℕ) → All (λ n. n ≤ 9999) (k ∷ ms) → read Number ks (join_with_byte 44 (map decimal (k ∷ ms)) ++ codes ")")
+    ≡ Some (End, ks ++ k ∷ ms)
 read-numbers ks k [] h = read-decimal ks k (All-head (λ n. n ≤ 9999) k [] h) (codes ")")
 read-numbers ks k (m ∷ ms) h =
-    append (join_with_byte 44 (map decimal (m ∷ ms))) ∙ read-numbers (ks ++ k ∷ []) m ms (All-tail (λ n. n ≤ 9999) k (m ∷ ms) h) ∙ ap (λ t. Some (End, t)) (append_assoc ks (k ∷ []) (m ∷ ms))
+    append (join_with_byte 44 (map decimal (m ∷ ms))) ∙ read-numbers (ks ++ k ∷ []) m ms (All-tail (λ n. n ≤ 9999) k (m ∷ ms) h)
+    ∙ ap (λ t. Some (End, t)) (append_assoc ks (k ∷ []) (m ∷ ms))
   where
     append : (js : List ℕ) → read Number ks ((decimal k ++ (44 ∷ js)) ++ codes ")") ≡ read Number (ks ++ k ∷ []) (js ++ codes ")")
-    append js = ap (read Number ks) (append_assoc (decimal k) (44 ∷ js) (codes ")")) ∙ read-decimal ks k (All-head (λ n. n ≤ 9999) k (m ∷ ms) h) (44 ∷ (js ++ codes ")"))
+    append js = ap (read Number ks) (append_assoc (decimal k) (44 ∷ js) (codes ")"))
+        ∙ read-decimal ks k (All-head (λ n. n ≤ 9999) k (m ∷ ms) h) (44 ∷ (js ++ codes ")"))
 
 pub read-index_text : (bytes ks : List ℕ) → IsIndexText bytes ks → read Start [] bytes ≡ Some (End, ks)
 read-index_text bytes [] t = let some = t.some in absurd (omega arith)

@@ -13,7 +13,7 @@ use Rattle.zeta_model.specs.declared.Letter.{Letter}
 use Rattle.zeta_model.specs.Indices.{z_word, word_of_index}
 use Rattle.word_letters.specs.declared.parse.Place.{Place}
 use Rattle.word_letters.specs.declared.parse.Place.TheVariants.{Start, Opened, Number, Digits, End}
-use Rattle.word_letters.specs.Reading.{is_digit, whole_number, zero_after, whole_after}
+use Rattle.word_letters.specs.Inner.{is_digit, whole_number, zero_after, whole_after}
 use Rattle.word_letters.specs.IndexText.{IsZeroByte, before_number}
 use Rattle.word_letters.proofs.IndexLemmas.{length-word_of_index}
 use Rattle.word_letters.proofs.Meaning.{Means}
@@ -38,9 +38,18 @@ some-injective m n e = ap (λ o. elim o as (λ o. ℕ) [ None ↦ m | Some r ↦
 
 later : (ks : List ℕ) (k at : ℕ) → IsZeroByte ks at → IsZeroByte (ks ++ k ∷ []) at
 later ks k at z =
-    record { front = z.front; rest = z.rest ++ k ∷ []; parts = ap (λ t. t ++ k ∷ []) z.parts ∙ append_assoc z.front (0 ∷ z.rest) (k ∷ []); positive = z.positive; place = z.place }
+    record {
+      front = z.front;
+      rest = z.rest ++ k ∷ [];
+      parts = ap (λ t. t ++ k ∷ []) z.parts ∙ append_assoc z.front (0 ∷ z.rest) (k ∷ []);
+      positive =
+          z.positive;
+      place = z.place;
+    }
 
-pub Totals-push : (ks : List ℕ) (k at weight : ℕ) (zero' : Option ℕ) (w w' : List Letter) → Totals ks weight zero' w → at ≡ length (before_number ks ++ decimal k) → (0 < k → length w + k ≤ 24 → w' ≡ w ++ z_word k) → Totals (ks ++ k ∷ []) (weight + k) (zero_after zero' at k) w'
+pub Totals-push : (ks : List ℕ) (k at weight : ℕ) (zero' : Option ℕ) (w w' : List Letter) → Totals ks weight zero' w
+    → at ≡ length (before_number ks ++ decimal k) → (0 < k → length w + k ≤ 24 → w' ≡ w ++ z_word k)
+    → Totals (ks ++ k ∷ []) (weight + k) (zero_after zero' at k) w'
 Totals-push ks k at weight (Some place) w w' t e h =
     record {
       weighs = ap (λ n. n + k) t.weighs ∙ sym (sum-push ks k);
@@ -71,7 +80,8 @@ Totals-push ks (suc k) at weight None w w' t e h =
       found = λ at' s. let both : None ≡ Some at' = sym none ∙ s in cc;
       word = λ e b.
           let before : w ≡ word_of_index ks = t.word refl (omega arith) in
-          h (omega arith) (omega (arith, ap length before, length-word_of_index ks, t.weighs)) ∙ ap (λ v. v ++ z_word (suc k)) before ∙ sym (word_of_index-push ks (suc k));
+          h (omega arith) (omega (arith, ap length before, length-word_of_index ks, t.weighs)) ∙ ap (λ v. v ++ z_word (suc k)) before
+          ∙ sym (word_of_index-push ks (suc k));
     }
 
 if-cases : (t : Bool) (k m : ℕ) → (if t then None else Some k) ≡ Some m → (t ≡ false) × (k ≡ m)

@@ -1,5 +1,4 @@
 pub mod Packing
 pub mod Order
-pub mod Text
 pub mod IndexText
-pub mod Reading
+pub mod Inner

@@ -1,14 +1,12 @@
-//! The index of a word, and its text.
-ghost use Rattle.std.specs.Prelude.{◌≡◌, ℕ, ◌+◌, ◌<◌, ◌≤◌, ◌==◌, ◌↔◌, ◌++◌, List, [], true, length, sum, All, slice_get, IfSome, IfNone, IfOk, OnOk, IsErrOf, Some, string_bytes};
+//! The index of a word.
+ghost use Rattle.std.specs.Prelude.{◌≡◌, ℕ, ◌+◌, ◌<◌, ◌≤◌, ◌==◌, ◌↔◌, ◌∷◌, List, [], true, length, drop, sum, All, slice_get, IfSome, IfNone, IfOk, OnOk, IsErrOf, Some};
 ghost use Rattle.std.specs.List.{position};
 ghost use Rattle.zeta_model.specs.Words.{ends_with_y, has_index};
-ghost use Rattle.zeta_model.specs.Indices.{index_of, word_of_index, word_text, z_word};
-ghost use Rattle.word_letters.specs.Text.{part_text};
+ghost use Rattle.zeta_model.specs.Indices.{index_of, word_of_index};
 
 use crate::fault::IndexFault;
 use crate::word::{MAX_WEIGHT, Word};
 use std::alloc::{AllocError, Global};
-use std::fmt::Write;
 use zeta_model::Letter;
 
 impl Word {
@@ -39,49 +37,38 @@ impl Word {
         Ok(spell(ks))
     }
 
+    /// The first number of the index of a word that ends with y: the letters up to the first y. Without that many letters in front the
+    /// word has the numbers that follow.
+    pub fn first_number(self) -> u32
+        requires { ends_with_y self ≡ true }
+        ensures first { index_of self ≡ result ∷ index_of (drop result self) }
+        ensures rest { has_index (drop result self) ≡ true }
+        ensures some { 0 < result }
+        ensures within { result ≤ length self }
+    {
+        for i in 0..self.weight() {
+            match self.letter(i) {
+                Letter::X => {}
+                Letter::Y => return i + 1,
+            }
+        }
+        unreachable!()
+    }
+
     /// The index of a word that is empty or ends with y: for each y, one more than the letters x just before it.
     pub fn to_index(self, alloc: Global) -> Result<Vec<u32>, AllocError>
         requires { has_index self ≡ true }
         ensures { IfOk result (λ ks. ks.items ≡ index_of self) }
     {
         let mut ks = Vec::new(alloc);
-        let mut run = 1;
-        for i in 0..self.weight() {
-            match self.letter(i) {
-                Letter::X => run += 1,
-                Letter::Y => {
-                    ks.push(run)?;
-                    run = 1;
-                }
-            }
+        let mut rest = self;
+        while rest.weight() > 0 {
+            let k = rest.first_number();
+            ks.push(k)?;
+            rest = rest.without_front(k);
         }
         Ok(ks)
     }
-
-    /// The index text `z(k1,..,kr)` of a word that ends with y.
-    pub fn text(self, alloc: Global) -> Result<String, AllocError>
-        requires { ends_with_y self ≡ true }
-        ensures { IfOk result (λ s. string_bytes s ≡ word_text self) }
-    {
-        let ks = self.to_index(alloc)?;
-        let mut s = String::from_str(alloc, "z(")?;
-        for i in 0..ks.len() {
-            push_part(&mut s, i == 0, ks[i])?;
-        }
-        s.push_str(")")?;
-        Ok(s)
-    }
-}
-
-/// Adds a number of an index to a text, behind a comma where it is not the first.
-fn push_part(s: &mut String, first: bool, k: u32) -> Result<(), AllocError>
-    ensures { OnOk result (string_bytes s.new ≡ string_bytes s.old ++ part_text first k) }
-{
-    if !first {
-        s.push_str(",")?;
-    }
-    write!(s, "{k}")?;
-    Ok(())
 }
 
 /// The place of the first zero among some numbers.
@@ -114,26 +101,7 @@ fn spell(ks: &[u32]) -> Word
     let mut i = ks.len();
     while i > 0 {
         i -= 1;
-        w = before_z(ks[i], w);
+        w = Word::z(ks[i]).followed_by(w);
     }
     w
-}
-
-/// The word x .. x y of `k` letters before a word.
-pub(crate) fn before_z(k: u32, w: Word) -> Word
-    requires some { 0 < k }
-    requires fits { k + length w ≤ 24 }
-    ensures { result ≡ z_word k ++ w }
-{
-    let mut z = match w.push_front(Letter::Y) {
-        Ok(longer) => longer,
-        Err(_) => w,
-    };
-    for i in 1..k {
-        match z.push_front(Letter::X) {
-            Ok(longer) => z = longer,
-            Err(_) => return z,
-        }
-    }
-    z
 }

@@ -4,14 +4,20 @@
 //! the index `k1, .., kr` is the word `x^(k1 - 1) y .. x^(kr - 1) y`, as in Ihara, Kaneko and Zagier (2006).
 #![tactic(auto)]
 
+pub use admissible::admissible_words;
 pub use fault::{IndexFault, TextFault, TooLong};
+pub use laws::index_laws;
 pub use word::{MAX_WEIGHT, Word};
 pub use zeta_model::Letter;
 
+mod admissible;
 mod fault;
 mod index;
+mod laws;
 mod order;
 mod parse;
+mod parts;
 #[cfg(test)]
 mod tests;
+mod text;
 mod word;

@@ -2,10 +2,9 @@
 ghost use Rattle.std.specs.Prelude.{◌≡◌, ℕ, ◌+◌, ◌*◌, ◌<◌, ◌≤◌, ◌↔◌, ◌++◌, List, length, sum, All, IfOk, IfErr, IsTrue};
 ghost use Rattle.zeta_model.specs.Indices.{word_of_index, z_word};
 ghost use Rattle.word_letters.specs.IndexText.{IsIndexText, IsWellFormed, IsLongestBeginning, Refuses};
-ghost use Rattle.word_letters.specs.Reading.{is_digit, digits_after, place_after, whole_number, zero_after};
+ghost use Rattle.word_letters.specs.Inner.{is_digit, digits_after, place_after, whole_number, zero_after};
 
 use crate::fault::TextFault;
-use crate::index::before_z;
 use crate::word::{MAX_WEIGHT, Word};
 
 /// What has been read just now of an index text.
@@ -110,12 +109,10 @@ fn zero_after(zero: Option<usize>, at: usize, k: u32) -> Option<usize>
 fn with_z(w: Word, k: u32) -> Word
     ensures { 0 < k → length w + k ≤ 24 → result ≡ w ++ z_word k }
 {
-    if k == 0 || k > MAX_WEIGHT {
-        return w;
-    }
-    match w.concat(before_z(k, Word::empty())) {
-        Ok(longer) => longer,
-        Err(_) => w,
+    if 0 < k && k <= MAX_WEIGHT - w.weight() {
+        w.followed_by(Word::z(k))
+    } else {
+        w
     }
 }
 

@@ -1,7 +1,7 @@
 //! A word, and what is read of it.
-ghost use Rattle.std.specs.Prelude.{◌≡◌, ℕ, ◌+◌, ◌<◌, ◌≤◌, ◌↔◌, List, [], ◌∷◌, ◌++◌, length, drop, slice_get, IfOk, IfErr, OnOk, IsErr};
+ghost use Rattle.std.specs.Prelude.{◌≡◌, ℕ, ◌+◌, ◌<◌, ◌≤◌, ◌↔◌, List, [], ◌∷◌, ◌++◌, length, slice_get, IfOk, IfErr, OnOk, IsErr};
 ghost use Rattle.zeta_model.specs.declared.Letter.{Letter};
-ghost use Rattle.zeta_model.specs.Words.{depth_of, ends_with_y, has_index, is_admissible, letter_rank};
+ghost use Rattle.zeta_model.specs.Words.{depth_of, ends_with_y, has_index, is_admissible};
 
 use crate::fault::TooLong;
 use std::marker::Model;
@@ -32,16 +32,6 @@ impl Model for Word {
     ghost inverse = { λ w. record { packed = packed_of w } };
 
     ghost inverse_ok = { λ a h i. record { packed = h.kept i } };
-}
-
-/// 0 for x and 1 for y.
-fn rank(a: Letter) -> u32
-    ensures { result ≡ letter_rank a }
-{
-    match a {
-        Letter::X => 0,
-        Letter::Y => 1,
-    }
 }
 
 impl Default for Word {
@@ -128,21 +118,7 @@ impl Word {
         if weight == MAX_WEIGHT {
             return Err(TooLong(weight + 1));
         }
-        let letters = self.packed / 32;
-        Ok(Word {
-            packed: (rank(a) * (1 << 23) + letters / 2) * 32 + (weight + 1),
-        })
-    }
-
-    /// The word without its first letter.
-    pub fn tail(self) -> Word
-        requires { 0 < length self }
-        ensures { result ≡ drop 1 self }
-    {
-        let letters = self.packed / 32;
-        Word {
-            packed: letters % (1 << 23) * 2 * 32 + (self.packed % 32 - 1),
-        }
+        Ok(self.in_front(a))
     }
 
     /// The letters of the word and behind them those of `v`. `TooLong(n)` exactly where the sum `n` of the two weights
@@ -153,14 +129,10 @@ impl Word {
         ensures too_long { IsErr result ↔ (24 < length self + length v) }
         ensures weight { IfErr result (λ fault. fault.0 ≡ length self + length v) }
     {
-        let front = self.weight();
-        let weight = front + v.weight();
+        let weight = self.weight() + v.weight();
         if weight > MAX_WEIGHT {
             return Err(TooLong(weight));
         }
-        let letters = self.packed / 32 + (v.packed / 32 >> front);
-        Ok(Word {
-            packed: letters * 32 + weight,
-        })
+        Ok(self.followed_by(v))
     }
 }

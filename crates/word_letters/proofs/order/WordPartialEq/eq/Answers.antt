@@ -7,4 +7,5 @@ use Rattle.word_letters.proofs.order.WordPartialEq.eq.Goals as goal
 
 pub returns : goal.returns
 returns c =
-    unsigned_ties _ _ ∙ ap is_eq (sym (word_cmp_packed _ _ c.self.invariant c.other.invariant)) ∙ (λ i. eq_by_cmp word_cmp (c.self.view_is i) (c.other.view_is i))
+    unsigned_ties _ _ ∙ ap is_eq (sym (word_cmp_packed _ _ c.self.invariant c.other.invariant))
+    ∙ (λ i. eq_by_cmp word_cmp (c.self.view_is i) (c.other.view_is i))

@@ -9,8 +9,11 @@ pub returns-in-None-clause-err : goal.returns-in-None-clause-err
 returns-in-None-clause-err c =
     let k = c.loop-at.invariant in
     let l = c.loop-at-test.true in
-    let e = c.in-None.ensures in
-    (stuck-none c.args.bytes.now c.loop-at.at _ c.loop-at.place k.numbers k.follows l refl (sym e), stuck-longest c.args.bytes.now c.loop-at.at _ c.loop-at.place k.numbers k.follows l refl (sym e))
+    let e = c.in-None.ensures in (
+      stuck-none c.args.bytes.now c.loop-at.at _ c.loop-at.place k.numbers k.follows l refl
+          (sym e),
+      stuck-longest c.args.bytes.now c.loop-at.at _ c.loop-at.place k.numbers k.follows l refl (sym e),
+    )
 
 pub loop-at-preserved : goal.loop-at-preserved
 loop-at-preserved c =
@@ -19,9 +22,13 @@ loop-at-preserved c =
     let e = sym c.in-Some.ensures in
     elim c.match-whole_number.branch [
       | in-Some-whole_number w ↦
-          Kept-along c.args.bytes.now (c.loop-at.at + 1) _ _ _ _ _ _ _ _ w.place-is w.weight-is (w.zero-is ∙ w.zero_after-zero.ensures) w.w-is (Kept-whole c.args.bytes.now c.loop-at.at _ c.loop-at.place c.in-Some.next c.loop-at.weight c.loop-at.zero c.loop-at.w k l refl e w.in-Some-whole_number.k (sym w.in-Some-whole_number.ensures) w.with_z-w.result w.with_z-w.ensures)
+          Kept-along c.args.bytes.now (c.loop-at.at + 1) _ _ _ _ _ _ _ _ w.place-is w.weight-is (w.zero-is
+          ∙ w.zero_after-zero.ensures) w.w-is
+          (Kept-whole c.args.bytes.now c.loop-at.at _ c.loop-at.place c.in-Some.next c.loop-at.weight c.loop-at.zero c.loop-at.w k l refl e w.in-Some-whole_number.k (sym w.in-Some-whole_number.ensures) w.with_z-w.result w.with_z-w.ensures)
       | in_default w ↦
-          Kept-along c.args.bytes.now (c.loop-at.at + 1) _ _ _ _ _ _ _ _ w.place-is w.weight-is w.zero-is w.w-is (Kept-same c.args.bytes.now c.loop-at.at _ c.loop-at.place c.in-Some.next c.loop-at.weight c.loop-at.zero c.loop-at.w k l refl e (sym w.in_default.ensures))
+          Kept-along c.args.bytes.now (c.loop-at.at + 1) _ _ _ _ _ _ _ _ w.place-is w.weight-is w.zero-is w.w-is
+          (Kept-same c.args.bytes.now c.loop-at.at _ c.loop-at.place c.in-Some.next c.loop-at.weight c.loop-at.zero c.loop-at.w k l refl e
+          (sym w.in_default.ensures))
     ]
 
 pub returns-then-not-is_end-clause-err : goal.returns-then-not-is_end-clause-err
@@ -29,5 +36,8 @@ returns-then-not-is_end-clause-err c =
     let k = c.loop-at.invariant in
     let e = c.if-not-is_end.ensures in
     let whole = take_all c.loop-at.at c.args.bytes.now c.loop-at-test.false in
-    let f : Follows c.args.bytes.now c.loop-at.place k.numbers = subst (λ front. Follows front c.loop-at.place k.numbers) whole k.follows in
-    (unfinished-none c.args.bytes.now c.loop-at.place k.numbers f (λ p. let t = e.1 p in cc), unfinished-longest c.args.bytes.now c.loop-at.place k.numbers f)
+    let f : Follows c.args.bytes.now c.loop-at.place k.numbers = subst (λ front. Follows front c.loop-at.place k.numbers) whole k.follows in (
+      unfinished-none c.args.bytes.now c.loop-at.place k.numbers f (λ p. let t = e.1 p in
+          cc),
+      unfinished-longest c.args.bytes.now c.loop-at.place k.numbers f,
+    )

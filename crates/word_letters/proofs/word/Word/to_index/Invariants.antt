@@ -1,6 +1,10 @@
-use Rattle.std.proofs.Common.{◌≡◌, ◌+◌, ◌≤◌, ◌++◌, drop}
-use Rattle.zeta_model.specs.Indices.{index_from}
+use Rattle.std.proofs.Common.{◌≡◌, ◌++◌, true, length}
+use Rattle.zeta_model.specs.Words.{has_index}
+use Rattle.zeta_model.specs.Indices.{index_of}
 use Rattle.word_letters.proofs.word.Word.to_index.Given as goal
 
-abbrev pub invariant-loop-i : goal.invariant-loop-i
-invariant-loop-i l = record { shape : l.ks.items ++ index_from l.run (drop l.i l.self) ≡ index_from 1 l.self; small : l.run ≤ l.i + 1 }
+abbrev pub invariant-loop-rest : goal.invariant-loop-rest
+invariant-loop-rest l = record { index : has_index l.rest ≡ true; read : l.ks.items ++ index_of l.rest ≡ index_of l.fn.self }
+
+abbrev pub decreases-loop-rest : goal.decreases-loop-rest
+decreases-loop-rest l = length l.rest

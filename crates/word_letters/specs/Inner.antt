@@ -1,9 +1,19 @@
--- Reading an index text byte by byte: what may stand next, and which numbers are whole.
-use Rattle.std.specs.Prelude.{ℕ, ◌+◌, ◌-◌, ◌*◌, Bool, ◌&&◌, ◌==◌, nat_lt, nat_le, if◌then◌else◌, Option, Some, None, List, [], ◌∷◌, ◌++◌}
+-- What single steps of the code answer. No public clause cites these, so a reader need not believe them.
+use Rattle.std.specs.Prelude.{ℕ, ◌+◌, ◌-◌, ◌*◌, Bool, true, false, ◌&&◌, ◌==◌, nat_lt, nat_le, if◌then◌else◌, Option, Some, None, List, [], ◌∷◌, ◌++◌, map, filter, codes}
 use Rattle.std.specs.Option.{option_and_then}
+use Rattle.std.specs.Fmt.{decimal}
+use Rattle.zeta_model.specs.declared.Letter.{Letter}
+use Rattle.zeta_model.specs.Words.{depth_of, ends_with_y}
+use Rattle.zeta_model.specs.WordLists.{all_words}
 use Rattle.word_letters.specs.declared.parse.Place.{Place}
 use Rattle.word_letters.specs.declared.parse.Place.TheVariants.{Start, Opened, Number, Digits, End}
 
+-- a comma stands before each number but the first
+abbrev pub part_text : Bool → ℕ → List ℕ
+part_text true k = decimal k
+part_text false k = codes "," ++ decimal k
+
+-- the byte is a decimal digit
 abbrev pub is_digit : ℕ → Bool
 is_digit b = nat_le 48 b && nat_le b 57
 
@@ -43,3 +53,11 @@ whole_after End b ks = ks
 abbrev pub read : Place → List ℕ → List ℕ → Option (Place × List ℕ)
 read place ks [] = Some (place, ks)
 read place ks (b ∷ bytes) = option_and_then (λ next. read next (whole_after place b ks) bytes) (place_after place b)
+
+-- the word ends with y, and at most d of its letters are y
+abbrev pub is_tail : ℕ → List Letter → Bool
+is_tail d t = ends_with_y t && nat_le (depth_of t) d
+
+-- the words that are f with n letters behind it, the last one y, and at most d of these y
+unfoldable pub words_behind : List Letter → ℕ → ℕ → List (List Letter)
+words_behind f n d = map (λ t. f ++ t) (filter (is_tail d) (all_words n))
