@@ -42,10 +42,12 @@ module _ {E : Type 0} where
       ((λ i. is_lt (word_cmp (second i) (first i))) ∙ up k d (omega arith) within)
       (apart_from_distinct same_word (keys_of es) k (k + 1) [] apart (omega arith) h)
 
-  increasing : (es : List (List Letter × E)) → IsDistinct same_word (keys_of es) → IsSortedByKey (λ e. e.0) word_cmp es → IsStrictlySortedBy word_cmp (keys_of es)
+  increasing : (es : List (List Letter × E)) → IsDistinct same_word (keys_of es) → IsSortedByKey (λ e. e.0) word_cmp es
+      → IsStrictlySortedBy word_cmp (keys_of es)
   increasing [] apart up = sorted_from_all_adjacent word_cmp_total [] [] (λ k h. absurd (omega (arith, h)))
   increasing (e ∷ es) apart up = sorted_from_all_adjacent word_cmp_total (keys_of (e ∷ es)) [] (neighbours (e ∷ es) e apart up)
 
-  pub increasing-IsPermutation : (es fs : List (List Letter × E)) → IsPermutation es fs → IsDistinct same_word (keys_of es) → IsSortedByKey (λ e. e.0) word_cmp fs → IsStrictlySortedBy word_cmp (keys_of fs)
+  pub increasing-IsPermutation : (es fs : List (List Letter × E)) → IsPermutation es fs → IsDistinct same_word (keys_of es)
+      → IsSortedByKey (λ e. e.0) word_cmp fs → IsStrictlySortedBy word_cmp (keys_of fs)
   increasing-IsPermutation es fs moved apart up =
       increasing fs (IsDistinct-IsPermutation same_word word_eq_equiv.symm (keys_of es) (keys_of fs) (IsPermutation-map (λ e. e.0) es fs moved) apart) up

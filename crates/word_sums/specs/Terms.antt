@@ -1,14 +1,14 @@
 -- Terms of a sum: words with elements of a ring.
-use Rattle.std.specs.Prelude.{◌≡◌, ◌≢◌, ℕ, Bool, true, List, map, All}
+use Rattle.std.specs.Prelude.{◌≡◌, ◌≢◌, ℕ, Bool, true, List, All}
 use Rattle.std.specs.List.{IsDistinct}
 use Rattle.std.specs.Map.{keys_of, values_of}
 use Rattle.zeta_model.specs.declared.Letter.{Letter}
-use Rattle.zeta_model.specs.Sums.{Sum, same_word, single, continued}
+use Rattle.zeta_model.specs.Sums.{Sum, same_word, single, numbered, continued}
 
 module _ {E : Type 0} where
   -- the sum that the terms give, each word times its residue; value says which residue an element stands for
   abbrev pub coefficient_of : (E → ℕ) → List (List Letter × E) → Sum
-  coefficient_of value terms = continued single (map (λ term. (value term.1, term.0)) terms)
+  coefficient_of value terms = continued single (numbered value terms)
 
   -- each word stands once, and no element is zero
   pub record IsTerms (zero : E) (terms : List (List Letter × E)) : Type 0 where

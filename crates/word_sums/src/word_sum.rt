@@ -3,6 +3,7 @@ ghost use Rattle.std.specs.Prelude.{◌≡◌, ℕ, ◌+◌, ◌*◌, ◌%◌, �
 ghost use Rattle.std.specs.List.Sorted.{IsPermutation, IsStrictlySortedBy};
 ghost use Rattle.std.specs.Map.{keys_of};
 ghost use Rattle.std.specs.Map.Iter.{ShowsInOrder, deref_pair};
+ghost use Rattle.word_sums.specs.Sums.{IsSum};
 ghost use Rattle.word_sums.specs.Terms.{coefficient_of, IsTerms, AllIn};
 ghost use Rattle.zeta_model.specs.declared.Letter.{Letter};
 ghost use Rattle.zeta_model.specs.Sums.{single};
@@ -62,7 +63,7 @@ impl<R: Ring> WordSum<R> {
         self.terms.len()
     }
 
-    /// The terms, words with residues, in the order in which the words came.
+    /// The terms, words with residues, in an order that adding and removing may change.
     pub fn iter(&self) -> Iter<'_, Word, R::Elem>
         ensures rest { result ≡ self.now }
         ensures terms { IsTerms R.zero self.now }
@@ -91,6 +92,7 @@ impl<R: Ring> WordSum<R> {
         ensures ok { OnOk result ((t : List Letter) → coefficient_of (R.value ring.now) self.new t
             ≡ (coefficient_of (R.value ring.now) self.old t + R.value ring.now residue * single word t) % R.modulus ring.now) }
         ensures in_ring { AllIn (R.has ring.now) self.new }
+        ensures terms { IsTerms R.zero self.new }
         ensures err { OnErr result (self.new ≡ self.old) }
     {
         let terms = &mut self.terms;
@@ -110,7 +112,7 @@ impl<R: Ring> WordSum<R> {
         }
         match terms.insert(word, sum) {
             Ok(_) => {}
-            Err(_) => return Err(AllocError),
+            Err(_) => unreachable!(),
         }
         Ok(())
     }
@@ -123,6 +125,7 @@ impl<R: Ring> WordSum<R> {
         ensures ok { OnOk result ((t : List Letter) → coefficient_of (R.value ring.now) self.new t
             ≡ (coefficient_of (R.value ring.now) self.old t + R.value ring.now c * coefficient_of (R.value ring.now) other.now t) % R.modulus ring.now) }
         ensures in_ring { AllIn (R.has ring.now) self.new }
+        ensures terms { OnOk result (IsTerms R.zero self.new) }
         ensures err { OnErr result (self.new ≡ self.old) }
     {
         let mut sum = self.scaled(ring, ring.one())?;
@@ -138,6 +141,7 @@ impl<R: Ring> WordSum<R> {
         ensures ok { IfOk result (λ sum. (t : List Letter) → coefficient_of (R.value ring.now) sum t
             ≡ R.value ring.now c * coefficient_of (R.value ring.now) self.now t % R.modulus ring.now) }
         ensures in_ring { IfOk result (λ sum. AllIn (R.has ring.now) sum) }
+        ensures terms { IfOk result (λ sum. IsTerms R.zero sum) }
     {
         let mut sum = WordSum::new(*self.terms.allocator());
         sum.add_each(ring, c, self)?;
@@ -159,13 +163,12 @@ impl<R: Ring> WordSum<R> {
 
     /// Adds `c` times each term of another sum in turn. After want of memory only some of them are added.
     fn add_each(&mut self, ring: &R, c: R::Elem, other: &WordSum<R>) -> Result<(), AllocError>
-        requires self_in_ring { AllIn (R.has ring.now) self.old }
+        requires sum { IsSum R.zero (R.has ring.now) self.old }
         requires other_in_ring { AllIn (R.has ring.now) other.now }
         requires has_c { R.has ring.now c ≡ true }
-        requires below { (t : List Letter) → coefficient_of (R.value ring.now) self.old t < R.modulus ring.now }
         ensures ok { OnOk result ((t : List Letter) → coefficient_of (R.value ring.now) self.new t
             ≡ (coefficient_of (R.value ring.now) self.old t + R.value ring.now c * coefficient_of (R.value ring.now) other.now t) % R.modulus ring.now) }
-        ensures in_ring { AllIn (R.has ring.now) self.new }
+        ensures sum { IsSum R.zero (R.has ring.now) self.new }
     {
         for (word, residue) in other.terms.iter() {
             self.add_term(ring, *word, ring.mul(c, *residue))?;

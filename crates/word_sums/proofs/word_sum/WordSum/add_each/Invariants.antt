@@ -3,4 +3,5 @@ use Rattle.word_sums.proofs.word_sum.WordSum.add_each.Given as goal
 
 abbrev pub invariant-loop-word : goal.invariant-loop-word
 invariant-loop-word g l =
-    Adding (g.R.Ring.has l.ring) (g.R.Ring.value l.ring) (g.R.Ring.modulus l.ring) (g.R.Ring.value l.ring l.c) l.initial.word-iterator l.initial.self l.self l.word-iterator
+    Adding g.R.Ring.zero (g.R.Ring.has l.ring) (g.R.Ring.value l.ring) (g.R.Ring.modulus l.ring)
+    (g.R.Ring.value l.ring l.c) l.initial.word-iterator l.initial.self l.self l.word-iterator

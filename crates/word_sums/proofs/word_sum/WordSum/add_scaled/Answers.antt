@@ -14,4 +14,5 @@ returns-clause-ok g c t =
     let copy : coefficient_of value c.in_ok-sum.sum t ≡ coefficient_of value c.args.self.now t % m =
     c.in_ok-sum.ensures.ok t ∙ ap (λ n. n % m) (once (coefficient_of value c.args.self.now t) (value c.one.result) one) in
     c.in_ok-add_each.ensures.ok t ∙ ap (λ n. (n + value c.args.c * coefficient_of value c.args.other.now t) % m) copy
-    ∙ same-add_right m (coefficient_of value c.args.self.now t % m) (coefficient_of value c.args.self.now t) (value c.args.c * coefficient_of value c.args.other.now t) (same-mod m (coefficient_of value c.args.self.now t))
+    ∙ same-add_right m (coefficient_of value c.args.self.now t % m) (coefficient_of value c.args.self.now t)
+    (value c.args.c * coefficient_of value c.args.other.now t) (same-mod m (coefficient_of value c.args.self.now t))
