@@ -11,7 +11,8 @@ use Rattle.zeta_model.specs.Words.{word_cmp}
 use Rattle.zeta_model.specs.Duality.{other_letter, dual_of, lesser_by, representative_of}
 use Rattle.zeta_model.proofs.DualityLaws.{length-dual_of}
 
-letter-dual_of : (w : List Letter) (i j : ℕ) (b : Letter) → i + j + 1 ≡ length w → slice_get w j ≡ Some b → get_or (dual_of w) i (other_letter b) ≡ other_letter b
+letter-dual_of : (w : List Letter) (i j : ℕ) (b : Letter) → i + j + 1 ≡ length w → slice_get w j ≡ Some b
+    → get_or (dual_of w) i (other_letter b) ≡ other_letter b
 letter-dual_of w i j b n e =
     let same : length (map other_letter w) ≡ length w = length-map w other_letter in
     let place : length (map other_letter w) - 1 - i ≡ j = omega arith in

@@ -22,10 +22,7 @@ pub fn dual(w: Word) -> Word
 {
     let mut dual = Word::empty();
     for i in 0..w.weight() {
-        match dual.push_front(other_letter(w.letter(i))) {
-            Ok(longer) => dual = longer,
-            Err(_) => return dual,
-        }
+        dual = dual.in_front(other_letter(w.letter(i)));
     }
     dual
 }

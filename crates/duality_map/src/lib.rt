@@ -5,9 +5,8 @@
 #![tactic(auto)]
 
 pub use duality::{dual, representative};
-pub use laws::duality_laws;
+pub use zeta_model::duality_laws;
 
 mod duality;
-mod laws;
 #[cfg(test)]
 mod tests;

@@ -4,8 +4,9 @@ use Rattle.duality_map.proofs.duality.dual.Goals as goal
 
 pub loop-i-preserved : goal.loop-i-preserved
 loop-i-preserved c =
-    let p = c.in-Ok.ensures.pushed in
+    let p = c.in_front-dual.ensures in
     record {
-      shape = p ∙ (λ i. c.other_letter.ensures i ∷ c.loop-i.invariant.shape i) ∙ sym (dual_of-take_more c.args.w c.loop-i.i c.letter.result c.letter.ensures);
+      shape = p ∙ (λ i. c.other_letter.ensures i ∷ c.loop-i.invariant.shape i)
+          ∙ sym (dual_of-take_more c.args.w c.loop-i.i c.letter.result c.letter.ensures);
       weight = omega (arith, ap length p);
     }
