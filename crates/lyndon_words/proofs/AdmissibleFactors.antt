@@ -28,10 +28,12 @@ last_letter Y (b ∷ w) =
 longer-admissible : (a b : Letter) (w : List Letter) → IsLyndon (a ∷ b ∷ w) → IsTrue (is_admissible (a ∷ b ∷ w))
 longer-admissible a b w l =
     let e : LastLetter (a ∷ b ∷ w) = last_letter a (b ∷ w) in
-    let less : IsBefore (a ∷ b ∷ w) (e.last ∷ []) = l.least e.front (e.last ∷ []) e.is (omega (arith, ap length e.is, length-append e.front (e.last ∷ []))) (omega arith) in
+    let less : IsBefore (a ∷ b ∷ w) (e.last ∷ []) =
+    l.least e.front (e.last ∷ []) e.is (omega (arith, ap length e.is, length-append e.front (e.last ∷ []))) (omega arith) in
     go a e.last less e.ends
   where
-    go : (a' c : Letter) → IsBefore (a' ∷ b ∷ w) (c ∷ []) → ends_with_y (a ∷ b ∷ w) ≡ is_y c → IsTrue (begins_with_x (a' ∷ b ∷ w) && ends_with_y (a ∷ b ∷ w))
+    go : (a' c : Letter) → IsBefore (a' ∷ b ∷ w) (c ∷ []) → ends_with_y (a ∷ b ∷ w) ≡ is_y c
+        → IsTrue (begins_with_x (a' ∷ b ∷ w) && ends_with_y (a ∷ b ∷ w))
     go X Y p e = e
     go X X p e = cc
     go Y X p e = cc
@@ -78,7 +80,8 @@ x-before (X ∷ []) e = cc
 x-before (Y ∷ w) e = cc
 x-before (X ∷ b ∷ w) e = refl
 
-pub factors-admissible : (us : List (List Letter)) → AllLyndon us → Falls us → begins_with_x (joined us) ≡ true → ends_with_y (joined us) ≡ true → AllAdmissible us
+pub factors-admissible : (us : List (List Letter)) → AllLyndon us → Falls us → begins_with_x (joined us) ≡ true → ends_with_y (joined us) ≡ true
+    → AllAdmissible us
 factors-admissible [] l f b e = tt
 factors-admissible (u ∷ []) l f b e = (alone (x_or_admissible u l.0 (sym (begins-append u [] l.0.nonempty) ∙ b)), tt)
   where
@@ -89,7 +92,8 @@ factors-admissible (u ∷ (v ∷ vs)) l f b e =
     let begins : begins_with_x u ≡ true = sym (begins-append u (joined (v ∷ vs)) l.0.nonempty) ∙ b in
     let later : begins_with_x v ≡ true = begins-later u v begins l.1.0.nonempty f.0.0 in
     let some : 0 < length (joined (v ∷ vs)) = omega (arith, length-append v (joined vs), l.1.0.nonempty) in
-    let rest : AllAdmissible (v ∷ vs) = factors-admissible (v ∷ vs) l.1 f.1 (begins-append v (joined vs) l.1.0.nonempty ∙ later) (sym (ends-append u (joined (v ∷ vs)) some) ∙ e) in
+    let rest : AllAdmissible (v ∷ vs) =
+    factors-admissible (v ∷ vs) l.1 f.1 (begins-append v (joined vs) l.1.0.nonempty ∙ later) (sym (ends-append u (joined (v ∷ vs)) some) ∙ e) in
     (first rest.0 (x_or_admissible u l.0 begins), rest)
   where
     first : IsTrue (is_admissible v) → (u ≡ X ∷ []) ⊎ IsTrue (is_admissible u) → IsTrue (is_admissible u)
@@ -107,6 +111,7 @@ joined-admissible (u ∷ (v ∷ vs)) a h =
     let rest : IsTrue (is_admissible (joined (v ∷ vs))) = joined-admissible (v ∷ vs) a.1 (omega arith) in
     let p = both_true (begins_with_x u) (ends_with_y u) a.0 in
     let q = both_true (begins_with_x (joined (v ∷ vs))) (ends_with_y (joined (v ∷ vs))) rest in
-    let ends : ends_with_y (u ++ joined (v ∷ vs)) ≡ true = ends-append u (joined (v ∷ vs)) (omega (arith, length-append v (joined vs), two_letters v a.1.0)) ∙ q.1 in
+    let ends : ends_with_y (u ++ joined (v ∷ vs)) ≡ true =
+    ends-append u (joined (v ∷ vs)) (omega (arith, length-append v (joined vs), two_letters v a.1.0)) ∙ q.1 in
     let begins : begins_with_x (u ++ joined (v ∷ vs)) ≡ true = begins-append u (joined (v ∷ vs)) (omega (arith, two_letters u a.0)) ∙ p.0 in
     ap (λ t. t && ends_with_y (u ++ joined (v ∷ vs))) begins ∙ ends

@@ -6,7 +6,7 @@ use Rattle.std.specs.Ordering.{is_lt}
 use Rattle.zeta_model.specs.declared.Letter.{Letter}
 use Rattle.zeta_model.specs.Words.{word_cmp}
 use Rattle.lyndon_words.specs.Lyndon.{IsBefore, IsLyndon, AllLyndon, IsAtLeast, Falls, joined, IsFactors}
-use Rattle.lyndon_words.specs.Steps.{join_front}
+use Rattle.lyndon_words.specs.Inner.{join_front}
 use Rattle.lyndon_words.proofs.WordLess.{Precedes, before, precedes, precedes-trans, precedes_cases}
 use Rattle.lyndon_words.proofs.LyndonConcat.{IsLyndon-letter, IsLyndon-append}
 use Rattle.lyndon_words.proofs.Suffixes.{is_lt-Less}
@@ -49,7 +49,8 @@ length-join_front f (k ∷ ks) =
 AllLyndon-join_front : (f : List Letter) (ks : List (List Letter)) → IsLyndon f → AllLyndon ks → AllLyndon (join_front f ks)
 AllLyndon-join_front f [] lf lk = (lf, tt)
 AllLyndon-join_front f (k ∷ ks) lf lk =
-    let go : (b : Bool) → is_lt (word_cmp f k) ≡ b → AllLyndon (cond b (join_front (f ++ k) ks) (f ∷ k ∷ ks)) = λ b. elim b as (λ b. is_lt (word_cmp f k) ≡ b → AllLyndon (cond b (join_front (f ++ k) ks) (f ∷ k ∷ ks))) [
+    let go : (b : Bool) → is_lt (word_cmp f k) ≡ b → AllLyndon (cond b (join_front (f ++ k) ks) (f ∷ k ∷ ks)) =
+    λ b. elim b as (λ b. is_lt (word_cmp f k) ≡ b → AllLyndon (cond b (join_front (f ++ k) ks) (f ∷ k ∷ ks))) [
       | true ↦ λ e. AllLyndon-join_front (f ++ k) ks (IsLyndon-append f k lf lk.0 (is_lt-Less (word_cmp f k) e)) lk.1
       | false ↦ λ e. (lf, lk)
     ] in
@@ -58,7 +59,8 @@ AllLyndon-join_front f (k ∷ ks) lf lk =
 Falls-join_front : (f : List Letter) (ks : List (List Letter)) → Falls ks → Falls (join_front f ks)
 Falls-join_front f [] d = (tt, tt)
 Falls-join_front f (k ∷ ks) d =
-    let go : (b : Bool) → is_lt (word_cmp f k) ≡ b → Falls (cond b (join_front (f ++ k) ks) (f ∷ k ∷ ks)) = λ b. elim b as (λ b. is_lt (word_cmp f k) ≡ b → Falls (cond b (join_front (f ++ k) ks) (f ∷ k ∷ ks))) [
+    let go : (b : Bool) → is_lt (word_cmp f k) ≡ b → Falls (cond b (join_front (f ++ k) ks) (f ∷ k ∷ ks)) =
+    λ b. elim b as (λ b. is_lt (word_cmp f k) ≡ b → Falls (cond b (join_front (f ++ k) ks) (f ∷ k ∷ ks))) [
       | true ↦ λ e. Falls-join_front (f ++ k) ks d.1
       | false ↦ λ e. let low : ¬ (IsBefore f k) = not_before (word_cmp f k) e in ((low, through f k ks low d.0), d)
     ] in

@@ -1,15 +1,16 @@
 -- The list of the Lyndon words behind a front is whole, and increases.
 use Rattle.std.proofs.Common.{◌≡◌, ℕ, ◌+◌, ◌<◌, ◌≤◌, zero, suc, inl, inr, Bool, true, false, cond, IsTrue, ◌↔◌, List, [], ◌∷◌, ◌++◌, length, refl, sym, ap, subst, ◌∙◌, arith, append_assoc}
 use Rattle.std.proofs.lemmas.List.{append-nil}
-use Rattle.std.specs.List.{Contains}
+use Rattle.std.specs.List.{Contains, AllByRecursion}
+use Rattle.std.specs.List.Sorted.{IsStrictlySortedBy}
 use Rattle.std.proofs.lemmas.List.Elements.{Contains-append_left, Contains-append_right, Contains-append_cases, Contains-push, Contains-push_cases}
-use Rattle.std.proofs.lemmas.List.Sums.{sum_by-cons}
 use Rattle.zeta_model.specs.declared.Letter.{Letter}
 use Rattle.zeta_model.specs.declared.Letter.TheVariants.{X, Y}
-use Rattle.zeta_model.specs.Words.{is_y, depth_of}
+use Rattle.zeta_model.specs.Words.{word_cmp, depth_of}
 use Rattle.lyndon_words.specs.Lyndon.{IsBefore, IsLyndon}
-use Rattle.lyndon_words.specs.Listing.{IsBelow, Increases, IsLyndonList}
-use Rattle.lyndon_words.specs.Steps.{lyndon_test, lyndon_behind}
+use Rattle.lyndon_words.specs.Listing.{IsLyndonList}
+use Rattle.lyndon_words.specs.Inner.{lyndon_test, lyndon_behind}
+use Rattle.zeta_model.proofs.DepthLemmas.{depth_of-x, depth_of-y}
 use Rattle.lyndon_words.proofs.WordLess.{Differs, before, precedes-differs}
 use Rattle.lyndon_words.proofs.Suffixes.{IsLyndon-from_test, lyndon_test-true}
 
@@ -20,17 +21,23 @@ record Behind (f w : List Letter) (n d : ℕ) : Type 0 where
   long : length rest ≡ n
   deep : depth_of rest ≤ d
 
-depth_of-x : (t : List Letter) → depth_of (X ∷ t) ≡ 0 + depth_of t
-depth_of-x t = sum_by-cons (λ a. cond (is_y a) 1 0) X t
-
-depth_of-y : (t : List Letter) → depth_of (Y ∷ t) ≡ 1 + depth_of t
-depth_of-y t = sum_by-cons (λ a. cond (is_y a) 1 0) Y t
-
 behind_x : (f w : List Letter) (n d : ℕ) → Behind (f ++ X ∷ []) w n d → Behind f w (suc n) d
-behind_x f w n d b = record { rest = X ∷ b.rest; is = b.is ∙ append_assoc f (X ∷ []) b.rest; long = ap suc b.long; deep = omega (arith, depth_of-x b.rest, b.deep) }
+behind_x f w n d b = record {
+  rest = X ∷ b.rest;
+  is = b.is ∙ append_assoc f (X ∷ []) b.rest;
+  long = ap suc b.long;
+  deep =
+      omega (arith, depth_of-x b.rest, b.deep);
+}
 
 behind_y : (f w : List Letter) (n d : ℕ) → Behind (f ++ Y ∷ []) w n d → Behind f w (suc n) (suc d)
-behind_y f w n d b = record { rest = Y ∷ b.rest; is = b.is ∙ append_assoc f (Y ∷ []) b.rest; long = ap suc b.long; deep = omega (arith, depth_of-y b.rest, b.deep) }
+behind_y f w n d b = record {
+  rest = Y ∷ b.rest;
+  is = b.is ∙ append_assoc f (Y ∷ []) b.rest;
+  long = ap suc b.long;
+  deep =
+      omega (arith, depth_of-y b.rest, b.deep);
+}
 
 none_contained : (w : List Letter) → Contains [] w → ⊥
 none_contained w c = let k : c.0 < 0 = c.1 in absurd (omega arith)
@@ -40,8 +47,10 @@ the_one f w c = elim (Contains-push_cases [] f w c) [ inl n ↦ absurd (none_con
 
 found : (n d : ℕ) (f w : List Letter) → Contains (lyndon_behind f n d) w → Behind f w n d × IsLyndon w
 found zero d f w =
-    let go : (b : Bool) → lyndon_test f ≡ b → Contains (cond b (f ∷ []) []) w → Behind f w zero d × IsLyndon w = λ b. elim b as (λ b. lyndon_test f ≡ b → Contains (cond b (f ∷ []) []) w → Behind f w zero d × IsLyndon w) [
-      | true ↦ λ e c. let s : f ≡ w = the_one f w c in (record { rest = []; is = sym s ∙ sym (append-nil f); long = refl; deep = omega arith }, subst IsLyndon s (IsLyndon-from_test f e))
+    let go : (b : Bool) → lyndon_test f ≡ b → Contains (cond b (f ∷ []) []) w → Behind f w zero d × IsLyndon w =
+    λ b. elim b as (λ b. lyndon_test f ≡ b → Contains (cond b (f ∷ []) []) w → Behind f w zero d × IsLyndon w) [
+      | true ↦ λ e c. let s : f ≡ w = the_one f w c in
+          (record { rest = []; is = sym s ∙ sym (append-nil f); long = refl; deep = omega arith }, subst IsLyndon s (IsLyndon-from_test f e))
       | false ↦ λ e c. absurd (none_contained w c)
     ] in
     go (lyndon_test f) refl
@@ -62,46 +71,60 @@ held zero d f [] e h l =
 held zero d f (a ∷ t) e h l = absurd (omega arith)
 held (suc n) d f [] e h l = absurd (omega arith)
 held (suc n) zero f (X ∷ t) e h l =
-    subst (Contains (lyndon_behind (f ++ X ∷ []) n zero)) (append_assoc f (X ∷ []) t) (held n zero (f ++ X ∷ []) t (omega arith) (omega (arith, depth_of-x t)) (subst IsLyndon (sym (append_assoc f (X ∷ []) t)) l))
+    subst (Contains (lyndon_behind (f ++ X ∷ []) n zero)) (append_assoc f (X ∷ []) t)
+    (held n zero (f ++ X ∷ []) t (omega arith) (omega (arith, depth_of-x t)) (subst IsLyndon (sym (append_assoc f (X ∷ []) t)) l))
 held (suc n) zero f (Y ∷ t) e h l = absurd (omega (arith, depth_of-y t))
 held (suc n) (suc d) f (X ∷ t) e h l =
     Contains-append_left (lyndon_behind (f ++ X ∷ []) n (suc d)) (lyndon_behind (f ++ Y ∷ []) n d) (f ++ X ∷ t)
-    (subst (Contains (lyndon_behind (f ++ X ∷ []) n (suc d))) (append_assoc f (X ∷ []) t) (held n (suc d) (f ++ X ∷ []) t (omega arith) (omega (arith, depth_of-x t)) (subst IsLyndon (sym (append_assoc f (X ∷ []) t)) l)))
+    (subst (Contains (lyndon_behind (f ++ X ∷ []) n (suc d))) (append_assoc f (X ∷ []) t)
+    (held n (suc d) (f ++ X ∷ []) t (omega arith) (omega (arith, depth_of-x t)) (subst IsLyndon (sym (append_assoc f (X ∷ []) t)) l)))
 held (suc n) (suc d) f (Y ∷ t) e h l =
     Contains-append_right (lyndon_behind (f ++ X ∷ []) n (suc d)) (lyndon_behind (f ++ Y ∷ []) n d) (f ++ Y ∷ t)
-    (subst (Contains (lyndon_behind (f ++ Y ∷ []) n d)) (append_assoc f (Y ∷ []) t) (held n d (f ++ Y ∷ []) t (omega arith) (omega (arith, depth_of-y t)) (subst IsLyndon (sym (append_assoc f (Y ∷ []) t)) l)))
+    (subst (Contains (lyndon_behind (f ++ Y ∷ []) n d)) (append_assoc f (Y ∷ []) t)
+    (held n d (f ++ Y ∷ []) t (omega arith) (omega (arith, depth_of-y t)) (subst IsLyndon (sym (append_assoc f (Y ∷ []) t)) l)))
 
-IsBelow-all : (u : List Letter) (vs : List (List Letter)) → ((v : List Letter) → Contains vs v → IsBefore u v) → IsBelow u vs
-IsBelow-all u [] f = tt
-IsBelow-all u (v ∷ vs) f = (f v (Contains-append_left (v ∷ []) vs v (Contains-push [] v)), IsBelow-all u vs (λ w c. f w (Contains-append_right (v ∷ []) vs w c)))
+below-all : (u : List Letter) (vs : List (List Letter)) → ((v : List Letter) → Contains vs v → IsBefore u v) → AllByRecursion (IsBefore u) vs
+below-all u [] f = tt
+below-all u (v ∷ vs) f = (
+  f v (Contains-append_left (v ∷ []) vs v (Contains-push [] v)),
+  below-all u vs
+      (λ w c. f w (Contains-append_right (v ∷ []) vs w c)),
+)
 
-IsBelow-append : (u : List Letter) (vs ws : List (List Letter)) → IsBelow u vs → IsBelow u ws → IsBelow u (vs ++ ws)
-IsBelow-append u [] ws a b = b
-IsBelow-append u (v ∷ vs) ws a b = (a.0, IsBelow-append u vs ws a.1 b)
+below-append : (u : List Letter) (vs ws : List (List Letter)) → AllByRecursion (IsBefore u) vs → AllByRecursion (IsBefore u) ws
+    → AllByRecursion (IsBefore u) (vs ++ ws)
+below-append u [] ws a b = b
+below-append u (v ∷ vs) ws a b = (a.0, below-append u vs ws a.1 b)
 
-Increases-append : (us vs : List (List Letter)) → Increases us → Increases vs → ((u v : List Letter) → Contains us u → Contains vs v → IsBefore u v) → Increases (us ++ vs)
-Increases-append [] vs a b f = b
-Increases-append (u ∷ us) vs a b f =
+increases-append : (us vs : List (List Letter)) → IsStrictlySortedBy word_cmp us → IsStrictlySortedBy word_cmp vs
+    → ((u v : List Letter) → Contains us u → Contains vs v → IsBefore u v) → IsStrictlySortedBy word_cmp (us ++ vs)
+unfolding IsStrictlySortedBy
+increases-append [] vs a b f = b
+increases-append (u ∷ us) vs a b f =
     let here : (v : List Letter) → Contains vs v → IsBefore u v = λ v c. f u v (Contains-append_left (u ∷ []) us u (Contains-push [] u)) c in
-    (IsBelow-append u us vs a.0 (IsBelow-all u vs here), Increases-append us vs a.1 b (λ s t p q. f s t (Contains-append_right (u ∷ []) us s p) q))
+    (below-append u us vs a.0 (below-all u vs here), increases-append us vs a.1 b (λ s t p q. f s t (Contains-append_right (u ∷ []) us s p) q))
 
 Differs-last : (f : List Letter) → Differs (f ++ X ∷ []) (f ++ Y ∷ [])
 Differs-last [] = inl (omega arith)
 Differs-last (a ∷ f) = inr (refl, Differs-last f)
 
 in_order : (f u v : List Letter) (n k d e : ℕ) → Behind (f ++ X ∷ []) u n d → Behind (f ++ Y ∷ []) v k e → IsBefore u v
-in_order f u v n k d e b c = subst (IsBefore u) (sym c.is) (subst (λ t. IsBefore t ((f ++ Y ∷ []) ++ c.rest)) (sym b.is) (before ((f ++ X ∷ []) ++ b.rest) ((f ++ Y ∷ []) ++ c.rest) (precedes-differs (f ++ X ∷ []) (f ++ Y ∷ []) b.rest c.rest (Differs-last f))))
+in_order f u v n k d e b c = subst (IsBefore u) (sym c.is)
+    (subst (λ t. IsBefore t ((f ++ Y ∷ []) ++ c.rest)) (sym b.is)
+    (before ((f ++ X ∷ []) ++ b.rest) ((f ++ Y ∷ []) ++ c.rest) (precedes-differs (f ++ X ∷ []) (f ++ Y ∷ []) b.rest c.rest (Differs-last f))))
 
-Increases-lyndon_behind : (n d : ℕ) (f : List Letter) → Increases (lyndon_behind f n d)
-Increases-lyndon_behind zero d f = elim (lyndon_test f) as (λ b. Increases (cond b (f ∷ []) [])) [ true ↦ (tt, tt) | false ↦ tt ]
-Increases-lyndon_behind (suc n) zero f = Increases-lyndon_behind n zero (f ++ X ∷ [])
-Increases-lyndon_behind (suc n) (suc d) f =
-    Increases-append (lyndon_behind (f ++ X ∷ []) n (suc d)) (lyndon_behind (f ++ Y ∷ []) n d) (Increases-lyndon_behind n (suc d) (f ++ X ∷ [])) (Increases-lyndon_behind n d (f ++ Y ∷ []))
+increases-lyndon_behind : (n d : ℕ) (f : List Letter) → IsStrictlySortedBy word_cmp (lyndon_behind f n d)
+unfolding IsStrictlySortedBy
+increases-lyndon_behind zero d f = elim (lyndon_test f) as (λ b. IsStrictlySortedBy word_cmp (cond b (f ∷ []) [])) [ true ↦ (tt, tt) | false ↦ tt ]
+increases-lyndon_behind (suc n) zero f = increases-lyndon_behind n zero (f ++ X ∷ [])
+increases-lyndon_behind (suc n) (suc d) f =
+    increases-append (lyndon_behind (f ++ X ∷ []) n (suc d)) (lyndon_behind (f ++ Y ∷ []) n d) (increases-lyndon_behind n (suc d) (f ++ X ∷ []))
+    (increases-lyndon_behind n d (f ++ Y ∷ []))
     (λ u v p q. in_order f u v n n (suc d) d (found n (suc d) (f ++ X ∷ []) u p).0 (found n d (f ++ Y ∷ []) v q).0)
 
 pub IsLyndonList-lyndon_behind : (weight depth : ℕ) → IsLyndonList weight depth (lyndon_behind [] weight depth)
 IsLyndonList-lyndon_behind weight depth = record {
-  increases = Increases-lyndon_behind weight depth [];
+  increases = increases-lyndon_behind weight depth [];
   whole = λ w. (λ c. there w (found weight depth [] w c), λ h. held weight depth [] w h.1 h.2 h.0);
 }
   where

@@ -25,7 +25,8 @@ last-piece l (k ∷ ks) mid rest none e h = go (λ m f g. last-piece l ks m rest
     low : ¬ (Precedes l k)
     low p = none.0 (before l k p)
 
-    onto : ((m : List Letter) → joined ks ≡ m ++ rest → 0 < length m → Piece l m) → (n : ℕ) → (m : List Letter) → length m ≡ n → mid ≡ k ++ m → joined ks ≡ m ++ rest → Piece l mid
+    onto : ((m : List Letter) → joined ks ≡ m ++ rest → 0 < length m → Piece l m) → (n : ℕ) → (m : List Letter) → length m ≡ n → mid ≡ k ++ m
+        → joined ks ≡ m ++ rest → Piece l mid
     onto again zero m z is e = record {
       front = [];
       piece = mid;
@@ -42,7 +43,8 @@ last-piece l (k ∷ ks) mid rest none e h = go (λ m f g. last-piece l ks m rest
     go again (inr s) = record { front = []; piece = mid; is = refl; some = h; low = front-low l mid s.middle (subst (λ t. ¬ (Precedes l t)) s.first low) }
 
 -- no Lyndon word begins with l and goes on into words that l is not before
-too_long : (l m mid rest : List Letter) (ls : List (List Letter)) → 0 < length l → IsLyndon m → m ≡ l ++ mid → 0 < length mid → IsAtLeast l ls → joined ls ≡ mid ++ rest → ⊥
+too_long : (l m mid rest : List Letter) (ls : List (List Letter)) → 0 < length l → IsLyndon m → m ≡ l ++ mid → 0 < length mid → IsAtLeast l ls
+    → joined ls ≡ mid ++ rest → ⊥
 too_long l m mid rest ls hl lm is h none e =
     let p : Piece l mid = last-piece l ls mid rest none e h in
     let whole : m ≡ (l ++ p.front) ++ p.piece = is ∙ ap (λ t. l ++ t) p.is ∙ sym (append_assoc l p.front p.piece) in
@@ -58,7 +60,8 @@ one_way [] (m ∷ ms) al am fl fm e = absurd (omega (arith, ap length e, length-
 one_way (l ∷ ls) [] al am fl fm e = absurd (omega (arith, ap length e, length-append l (joined ls), al.0.nonempty))
 one_way (l ∷ ls) (m ∷ ms) al am fl fm e = go (λ f. one_way ls ms al.1 am.1 fl.1 fm.1 f) (split l (joined ls) m (joined ms) e)
   where
-    left : (joined ls ≡ joined ms → ls ≡ ms) → (n : ℕ) → (mid : List Letter) → length mid ≡ n → m ≡ l ++ mid → joined ls ≡ mid ++ joined ms → l ∷ ls ≡ m ∷ ms
+    left : (joined ls ≡ joined ms → ls ≡ ms) → (n : ℕ) → (mid : List Letter) → length mid ≡ n → m ≡ l ++ mid → joined ls ≡ mid ++ joined ms
+        → l ∷ ls ≡ m ∷ ms
     left again zero mid z is e =
         let none : mid ≡ [] = nothing_left mid z in
         let same : l ≡ m = sym (is ∙ ap (λ t. l ++ t) none ∙ append-nil l) in
@@ -66,7 +69,8 @@ one_way (l ∷ ls) (m ∷ ms) al am fl fm e = go (λ f. one_way ls ms al.1 am.1 
         λ i. same i ∷ rest i
     left again (suc n) mid z is e = absurd (too_long l m mid (joined ms) ls al.0.nonempty am.0 is (omega arith) fl.0 e)
 
-    right : (joined ls ≡ joined ms → ls ≡ ms) → (n : ℕ) → (mid : List Letter) → length mid ≡ n → l ≡ m ++ mid → joined ms ≡ mid ++ joined ls → l ∷ ls ≡ m ∷ ms
+    right : (joined ls ≡ joined ms → ls ≡ ms) → (n : ℕ) → (mid : List Letter) → length mid ≡ n → l ≡ m ++ mid → joined ms ≡ mid ++ joined ls
+        → l ∷ ls ≡ m ∷ ms
     right again zero mid z is e =
         let none : mid ≡ [] = nothing_left mid z in
         let same : l ≡ m = is ∙ ap (λ t. m ++ t) none ∙ append-nil m in

@@ -20,16 +20,18 @@ length-put w (u ∷ us) = elim (is_lt (word_cmp u w)) as (λ b. length (cond b (
 
 length-joined-put : (w : List Letter) (us : List (List Letter)) → length (joined (put w us)) ≡ length w + length (joined us)
 length-joined-put w [] = length-append w []
-length-joined-put w (u ∷ us) = elim (is_lt (word_cmp u w)) as (λ b. length (joined (cond b (w ∷ u ∷ us) (u ∷ put w us))) ≡ length w + length (u ++ joined us)) [
-  | true ↦ length-append w (u ++ joined us)
-  | false ↦ omega (arith, length-append u (joined (put w us)), length-append u (joined us), length-joined-put w us)
-]
+length-joined-put w (u ∷ us) = elim (is_lt (word_cmp u w))
+    as (λ b. length (joined (cond b (w ∷ u ∷ us) (u ∷ put w us))) ≡ length w + length (u ++ joined us)) [
+      | true ↦ length-append w (u ++ joined us)
+      | false ↦ omega (arith, length-append u (joined (put w us)), length-append u (joined us), length-joined-put w us)
+    ]
 
 sum_of-put : (w : List Letter) (us : List (List Letter)) (t : List Letter) → sum_of (put w us) t ≡ single w t + sum_of us t
 sum_of-put w [] t = refl
 sum_of-put w (u ∷ us) t = elim (is_lt (word_cmp u w)) as (λ b. sum_of (cond b (w ∷ u ∷ us) (u ∷ put w us)) t ≡ single w t + (single u t + sum_of us t)) [
   | true ↦ refl
-  | false ↦ let e : sum_of (put w us) t ≡ single w t + sum_of us t = sum_of-put w us t in ap (λ n. single u t + n) e ∙ swapped (single u t) (single w t) (sum_of us t)
+  | false ↦ let e : sum_of (put w us) t ≡ single w t + sum_of us t = sum_of-put w us t in
+      ap (λ n. single u t + n) e ∙ swapped (single u t) (single w t) (sum_of us t)
 ]
   where
     swapped : (a b c : ℕ) → a + (b + c) ≡ b + (a + c)
@@ -67,7 +69,8 @@ not_back u w p q = precedes-irreflexive u (precedes-trans u w u (precedes u w p)
 Falls-put : (w : List Letter) (us : List (List Letter)) → Falls us → Falls (put w us)
 Falls-put w [] f = (tt, tt)
 Falls-put w (u ∷ us) f =
-    let go : (b : Bool) → is_lt (word_cmp u w) ≡ b → Falls (cond b (w ∷ u ∷ us) (u ∷ put w us)) = λ b. elim b as (λ b. is_lt (word_cmp u w) ≡ b → Falls (cond b (w ∷ u ∷ us) (u ∷ put w us))) [
+    let go : (b : Bool) → is_lt (word_cmp u w) ≡ b → Falls (cond b (w ∷ u ∷ us) (u ∷ put w us)) =
+    λ b. elim b as (λ b. is_lt (word_cmp u w) ≡ b → Falls (cond b (w ∷ u ∷ us) (u ∷ put w us))) [
       | true ↦ λ e. let n : ¬ (IsBefore w u) = not_back u w (is_lt-Less (word_cmp u w) e) in ((n, through w u us n f.0), f)
       | false ↦ λ e. (IsAtLeast-put u w us (not_before (word_cmp u w) e) f.0, Falls-put w us f.1)
     ] in
@@ -81,13 +84,15 @@ record Gathers (p : List (List Letter)) (n : ℕ) (counts : List Letter → ℕ)
   weight : length (joined p) ≡ n
   counted : (t : List Letter) → sum_of p t ≡ counts t
 
-gathers : (a b : List (List Letter)) → AllLyndon a → AllAdmissible a → AllLyndon b → AllAdmissible b → Falls b → Gathers (product_of a b) (length (joined a) + length (joined b)) (λ t. sum_of a t + sum_of b t)
+gathers : (a b : List (List Letter)) → AllLyndon a → AllAdmissible a → AllLyndon b → AllAdmissible b → Falls b
+    → Gathers (product_of a b) (length (joined a) + length (joined b)) (λ t. sum_of a t + sum_of b t)
 gathers [] b la aa lb ab fb = record { lyndon = lb; admissible = ab; falls = fb; weight = omega arith; counted = λ t. zeros (sum_of b t) }
   where
     zeros : (n : ℕ) → n ≡ 0 + n
     zeros n = omega arith
 gathers (w ∷ a) b la aa lb ab fb =
-    let rest : Gathers (product_of a (put w b)) (length (joined a) + length (joined (put w b))) (λ t. sum_of a t + sum_of (put w b) t) = gathers a (put w b) la.1 aa.1 (AllLyndon-put w b la.0 lb) (AllAdmissible-put w b aa.0 ab) (Falls-put w b fb) in
+    let rest : Gathers (product_of a (put w b)) (length (joined a) + length (joined (put w b))) (λ t. sum_of a t + sum_of (put w b) t) =
+    gathers a (put w b) la.1 aa.1 (AllLyndon-put w b la.0 lb) (AllAdmissible-put w b aa.0 ab) (Falls-put w b fb) in
     record {
       lyndon = rest.lyndon;
       admissible = rest.admissible;
@@ -99,16 +104,19 @@ gathers (w ∷ a) b la aa lb ab fb =
     swapped : (k m n : ℕ) → k + (m + n) ≡ (m + k) + n
     swapped k m n = omega arith
 
-pub IsProduct-product_of : (a b : List (List Letter)) → IsMonomial a → IsMonomial b → length (joined a) + length (joined b) ≤ 24 → IsProduct a b (product_of a b)
+pub IsProduct-product_of : (a b : List (List Letter)) → IsMonomial a → IsMonomial b → length (joined a) + length (joined b) ≤ 24
+    → IsProduct a b (product_of a b)
 IsProduct-product_of a b ma mb h =
-    let g : Gathers (product_of a b) (length (joined a) + length (joined b)) (λ t. sum_of a t + sum_of b t) = gathers a b ma.lyndon ma.admissible mb.lyndon mb.admissible mb.falls in
+    let g : Gathers (product_of a b) (length (joined a) + length (joined b)) (λ t. sum_of a t + sum_of b t) =
+    gathers a b ma.lyndon ma.admissible mb.lyndon mb.admissible mb.falls in
     record {
       monomial = record { lyndon = g.lyndon; admissible = g.admissible; falls = g.falls; within = omega (arith, g.weight) };
       counts = g.counted;
     }
 
 -- one more word of a is put into what was made
-pub product_of-step : (a old new : List (List Letter)) (i : ℕ) (w : List Letter) → i < length a → w ≡ get_or a i w → new ≡ put w old → product_of (drop (i + 1) a) new ≡ product_of (drop i a) old
+pub product_of-step : (a old new : List (List Letter)) (i : ℕ) (w : List Letter) → i < length a → w ≡ get_or a i w → new ≡ put w old
+    → product_of (drop (i + 1) a) new ≡ product_of (drop i a) old
 product_of-step a old new i w h g e =
     let next : suc i ≡ i + 1 = omega arith in
     let d : drop i a ≡ w ∷ drop (i + 1) a = drop-cons a i w h ∙ (λ j. sym g j ∷ drop (next j) a) in

@@ -6,7 +6,7 @@ use Rattle.std.specs.Ordering.{is_lt}
 use Rattle.zeta_model.specs.declared.Letter.{Letter}
 use Rattle.zeta_model.specs.Words.{word_cmp}
 use Rattle.lyndon_words.specs.Lyndon.{IsBefore, IsLyndon}
-use Rattle.lyndon_words.specs.Steps.{is_below_suffixes, lyndon_test}
+use Rattle.lyndon_words.specs.Inner.{is_below_suffixes, lyndon_test}
 
 pub is_lt-Less : (o : Ordering) → is_lt o ≡ true → o ≡ Less
 is_lt-Less Less e = refl

@@ -1,4 +1,4 @@
 pub mod Lyndon
 pub mod Monomials
-pub mod Steps
+pub mod Inner
 pub mod Listing

@@ -5,10 +5,9 @@ ghost use Rattle.zeta_model.specs.declared.Letter.{Letter};
 ghost use Rattle.zeta_model.specs.Words.{is_admissible};
 ghost use Rattle.lyndon_words.specs.Lyndon.{joined, IsFactors};
 ghost use Rattle.lyndon_words.specs.Monomials.{IsMonomial};
-ghost use Rattle.lyndon_words.specs.Steps.{join_front};
+ghost use Rattle.lyndon_words.specs.Inner.{join_front};
 
 use crate::monomial::Monomial;
-use crate::words::{append, letter_word};
 use smallvec::SmallVec;
 use std::alloc::Global;
 use word_letters::Word;
@@ -27,7 +26,7 @@ pub fn factors(alloc: Global, w: Word) -> Monomial
     let mut place = w.weight();
     while place > 0 {
         place -= 1;
-        put_front(&mut stack, letter_word(w.letter(place)));
+        put_front(&mut stack, Word::of(w.letter(place)));
     }
     Monomial {
         factors: turned(alloc, stack),
@@ -45,7 +44,7 @@ fn put_front(stack: &mut SmallVec<Word, 24>, front: Word)
         None => stack.push_reserved(front),
         Some(next) => {
             if front < next {
-                put_front(stack, append(front, next));
+                put_front(stack, front.followed_by(next));
             } else {
                 stack.push_reserved(next);
                 stack.push_reserved(front);

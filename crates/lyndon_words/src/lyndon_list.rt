@@ -2,9 +2,8 @@
 ghost use Rattle.std.specs.Prelude.{◌≡◌, ℕ, ◌+◌, ◌<◌, ◌≤◌, ◌↔◌, List, [], ◌∷◌, ◌++◌, length, IsTrue, IfOk, OnOk};
 ghost use Rattle.lyndon_words.specs.Lyndon.{IsLyndon};
 ghost use Rattle.lyndon_words.specs.Listing.{IsLyndonList};
-ghost use Rattle.lyndon_words.specs.Steps.{lyndon_behind};
+ghost use Rattle.lyndon_words.specs.Inner.{lyndon_behind};
 
-use crate::words::{append, letter_word};
 use std::alloc::{AllocError, Global};
 use word_letters::{Letter, Word};
 
@@ -49,15 +48,10 @@ fn push_behind(list: &mut Vec<Word>, front: Word, more: u32, depth: u32) -> Resu
         }
         return Ok(());
     }
-    push_behind(list, append(front, letter_word(Letter::X)), more - 1, depth)?;
+    push_behind(list, front.with_last(Letter::X), more - 1, depth)?;
     if depth == 0 {
         return Ok(());
     }
-    push_behind(
-        list,
-        append(front, letter_word(Letter::Y)),
-        more - 1,
-        depth - 1,
-    )?;
+    push_behind(list, front.with_last(Letter::Y), more - 1, depth - 1)?;
     Ok(())
 }

@@ -1,5 +1,5 @@
 use Rattle.std.proofs.Common.{◌≡◌, drop, length}
-use Rattle.lyndon_words.specs.Steps.{is_below_suffixes}
+use Rattle.lyndon_words.specs.Inner.{is_below_suffixes}
 use Rattle.lyndon_words.proofs.lyndon_list.is_lyndon.Given as goal
 
 abbrev pub invariant-loop-w : goal.invariant-loop-w

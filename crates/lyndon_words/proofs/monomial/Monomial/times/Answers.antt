@@ -14,12 +14,14 @@ pub returns-clause-product : goal.returns-clause-product
 returns-clause-product c =
     let ma : IsMonomial c.args.self.now = subst IsMonomial c.self.view_is c.self.invariant.0 in
     let mb : IsMonomial c.args.other.now = subst IsMonomial c.other.view_is c.other.invariant.0 in
-    let made : c.product.result.items ≡ product_of c.args.self.now c.args.other.now = c.product.ensures.items ∙ (λ i. product_of ((c.as_slice.ensures ∙ c.self.view_is) i) ((c.as_slice-2.ensures ∙ c.other.view_is) i)) in
+    let made : c.product.result.items ≡ product_of c.args.self.now c.args.other.now =
+    c.product.ensures.items ∙ (λ i. product_of ((c.as_slice.ensures ∙ c.self.view_is) i) ((c.as_slice-2.ensures ∙ c.other.view_is) i)) in
     subst (IsProduct c.args.self.now c.args.other.now) (sym made) (IsProduct-product_of c.args.self.now c.args.other.now ma mb (omega arith))
 
 pub invariant_of-result : goal.invariant_of-result
 invariant_of-result c =
     let ma : IsMonomial c.args.self.now = subst IsMonomial c.self.view_is c.self.invariant.0 in
     let mb : IsMonomial c.args.other.now = subst IsMonomial c.other.view_is c.other.invariant.0 in
-    let made : c.product.result.items ≡ product_of c.args.self.now c.args.other.now = c.product.ensures.items ∙ (λ i. product_of ((c.as_slice.ensures ∙ c.self.view_is) i) ((c.as_slice-2.ensures ∙ c.other.view_is) i)) in
+    let made : c.product.result.items ≡ product_of c.args.self.now c.args.other.now =
+    c.product.ensures.items ∙ (λ i. product_of ((c.as_slice.ensures ∙ c.self.view_is) i) ((c.as_slice-2.ensures ∙ c.other.view_is) i)) in
     (subst IsMonomial (sym made) (IsProduct-product_of c.args.self.now c.args.other.now ma mb (omega arith)).monomial, c.product.ensures.capacity)
