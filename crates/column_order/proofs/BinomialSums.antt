@@ -1,21 +1,7 @@
 -- The binomial numbers and their sums.
 use Rattle.std.proofs.Common.{◌≡◌, ℕ, ◌+◌, ◌-◌, ◌*◌, ◌/◌, ◌^◌, ◌<◌, ◌≤◌, zero, suc, refl, sym, ap, ◌∙◌, arith}
 use Rattle.std.proofs.Math.Nat.{pow-le-pow_right, two-pow-succ, one-le-pow, mul-div_cancel}
-use Rattle.column_order.specs.Columns.{binomial, binomial_sum}
-
-pub binomial_sum-pascal : (n d : ℕ) → binomial_sum (suc n) (suc d) ≡ binomial_sum n (suc d) + binomial_sum n d
-unfolding binomial binomial_sum
-binomial_sum-pascal n zero = omega arith
-binomial_sum-pascal n (suc d) = omega (arith, binomial_sum-pascal n d)
-
-pub binomial_sum-zero : (d : ℕ) → binomial_sum 0 (suc d) ≡ 1
-unfolding binomial binomial_sum
-binomial_sum-zero zero = refl
-binomial_sum-zero (suc d) = omega (arith, binomial_sum-zero d)
-
-pub binomial_sum-one : (n : ℕ) → binomial_sum n 1 ≡ 1
-unfolding binomial binomial_sum
-binomial_sum-one n = refl
+use Rattle.zeta_model.specs.WordLists.{binomial, binomial_sum}
 
 pub binomial_sum-none : (n : ℕ) → binomial_sum n 0 ≡ 0
 unfolding binomial_sum
@@ -49,7 +35,9 @@ binomial-absorbs (suc n) (suc r) zero e =
     let above : binomial n (suc r) ≡ 0 = binomial-above n (suc r) (omega arith) in
     let far : binomial n (suc (suc r)) ≡ 0 = binomial-above n (suc (suc r)) (omega arith) in
     grind arith
-binomial-absorbs (suc n) (suc r) (suc k) e = joins (binomial n r) (binomial n (suc r)) (binomial n (suc (suc r))) r k (binomial-absorbs n r (suc k) (omega arith)) (binomial-absorbs n (suc r) k (omega arith))
+binomial-absorbs (suc n) (suc r) (suc k) e =
+    joins (binomial n r) (binomial n (suc r)) (binomial n (suc (suc r))) r k (binomial-absorbs n r (suc k) (omega arith))
+    (binomial-absorbs n (suc r) k (omega arith))
 
 pub binomial-next : (n r : ℕ) → r ≤ n → binomial n r * (n - r) / (r + 1) ≡ binomial n (r + 1)
 binomial-next n r h =

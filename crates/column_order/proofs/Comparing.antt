@@ -26,11 +26,14 @@ is_ne-false Less e = cc
 is_ne-false Equal e = refl
 is_ne-false Greater e = cc
 
-compared : (p q : List (List Letter)) (i : ℕ) (u v : List Letter) (o : Ordering) → slice_get p i ≡ Some u → slice_get q i ≡ Some v → o ≡ word_cmp u v → slice_cmp word_cmp (drop i p) (drop i q) ≡ ordering_then o (slice_cmp word_cmp (drop (i + 1) p) (drop (i + 1) q))
+compared : (p q : List (List Letter)) (i : ℕ) (u v : List Letter) (o : Ordering) → slice_get p i ≡ Some u → slice_get q i ≡ Some v → o ≡ word_cmp u v
+    → slice_cmp word_cmp (drop i p) (drop i q) ≡ ordering_then o (slice_cmp word_cmp (drop (i + 1) p) (drop (i + 1) q))
 compared p q i u v o e f g =
-    (λ j. slice_cmp word_cmp (drop-at p i u e j) (drop-at q i v f j)) ∙ ap (λ t. ordering_then t (slice_cmp word_cmp (drop (i + 1) p) (drop (i + 1) q))) (sym g)
+    (λ j. slice_cmp word_cmp (drop-at p i u e j) (drop-at q i v f j))
+    ∙ ap (λ t. ordering_then t (slice_cmp word_cmp (drop (i + 1) p) (drop (i + 1) q))) (sym g)
 
-pub compared_differs : (p q : List (List Letter)) (i : ℕ) (u v : List Letter) (o : Ordering) → slice_get p i ≡ Some u → slice_get q i ≡ Some v → o ≡ word_cmp u v → ¬ (o ≡ Equal) → slice_cmp word_cmp (drop i p) (drop i q) ≡ slice_cmp word_cmp p q → o ≡ slice_cmp word_cmp p q
+pub compared_differs : (p q : List (List Letter)) (i : ℕ) (u v : List Letter) (o : Ordering) → slice_get p i ≡ Some u → slice_get q i ≡ Some v
+    → o ≡ word_cmp u v → ¬ (o ≡ Equal) → slice_cmp word_cmp (drop i p) (drop i q) ≡ slice_cmp word_cmp p q → o ≡ slice_cmp word_cmp p q
 compared_differs p q i u v o e f g n h = decided o n ∙ sym (compared p q i u v o e f g) ∙ h
   where
     decided : (o : Ordering) → ¬ (o ≡ Equal) → o ≡ ordering_then o (slice_cmp word_cmp (drop (i + 1) p) (drop (i + 1) q))
@@ -38,8 +41,11 @@ compared_differs p q i u v o e f g n h = decided o n ∙ sym (compared p q i u v
     decided Equal n = absurd (n refl)
     decided Greater n = refl
 
-pub compared_same : (p q : List (List Letter)) (i : ℕ) (u v : List Letter) (o : Ordering) → slice_get p i ≡ Some u → slice_get q i ≡ Some v → o ≡ word_cmp u v → o ≡ Equal → slice_cmp word_cmp (drop i p) (drop i q) ≡ slice_cmp word_cmp p q → slice_cmp word_cmp (drop (i + 1) p) (drop (i + 1) q) ≡ slice_cmp word_cmp p q
-compared_same p q i u v o e f g n h = sym (compared p q i u v o e f g ∙ ap (λ t. ordering_then t (slice_cmp word_cmp (drop (i + 1) p) (drop (i + 1) q))) n) ∙ h
+pub compared_same : (p q : List (List Letter)) (i : ℕ) (u v : List Letter) (o : Ordering) → slice_get p i ≡ Some u → slice_get q i ≡ Some v
+    → o ≡ word_cmp u v → o ≡ Equal → slice_cmp word_cmp (drop i p) (drop i q) ≡ slice_cmp word_cmp p q
+    → slice_cmp word_cmp (drop (i + 1) p) (drop (i + 1) q) ≡ slice_cmp word_cmp p q
+compared_same p q i u v o e f g n h =
+    sym (compared p q i u v o e f g ∙ ap (λ t. ordering_then t (slice_cmp word_cmp (drop (i + 1) p) (drop (i + 1) q))) n) ∙ h
 
 one_ended : (xs ys : List (List Letter)) → (length xs ≡ 0) ⊎ (length ys ≡ 0) → slice_cmp word_cmp xs ys ≡ nat_cmp (length xs) (length ys)
 one_ended [] [] h = refl
@@ -49,7 +55,8 @@ one_ended (x ∷ xs) (y ∷ ys) (inl h) = absurd (omega arith)
 one_ended (x ∷ xs) (y ∷ ys) (inr h) = absurd (omega arith)
 
 -- one list has ended at the place, and there was no difference before it
-pub compared_end : (p q : List (List Letter)) (i : ℕ) → i ≤ length p → i ≤ length q → (length p ≤ i) ⊎ (length q ≤ i) → slice_cmp word_cmp (drop i p) (drop i q) ≡ slice_cmp word_cmp p q → nat_cmp (length p) (length q) ≡ slice_cmp word_cmp p q
+pub compared_end : (p q : List (List Letter)) (i : ℕ) → i ≤ length p → i ≤ length q → (length p ≤ i) ⊎ (length q ≤ i)
+    → slice_cmp word_cmp (drop i p) (drop i q) ≡ slice_cmp word_cmp p q → nat_cmp (length p) (length q) ≡ slice_cmp word_cmp p q
 compared_end p q i hp hq h e =
     let first : length p ≡ i + length (drop i p) = omega (arith, length-drop i p) in
     let second : length q ≡ i + length (drop i q) = omega (arith, length-drop i q) in

@@ -55,7 +55,9 @@ pub length-le_from_within : {A : Type 0} (xs ys : List A) → AllDistinct xs →
 length-le_from_within [] ys d f = omega arith
 length-le_from_within (x ∷ xs) ys d f =
     let s : Occurrence ys x = occurrence ys x (f x (Contains-head x xs)) in
-    let rest : length xs ≤ length (s.front ++ s.back) = length-le_from_within xs (s.front ++ s.back) d.1 (λ z c. without s.front s.back x z (subst (λ t. Contains t z) s.is (f z (Contains-tail x xs z c))) (λ e. d.0 (subst (Contains xs) (sym e) c))) in
+    let rest : length xs ≤ length (s.front ++ s.back) =
+    length-le_from_within xs (s.front ++ s.back) d.1
+    (λ z c. without s.front s.back x z (subst (λ t. Contains t z) s.is (f z (Contains-tail x xs z c))) (λ e. d.0 (subst (Contains xs) (sym e) c))) in
     omega (arith, ap length s.is, length-append s.front (x ∷ s.back), length-append s.front s.back)
 
 AllDistinct-without : {A : Type 0} (front back : List A) (x : A) → AllDistinct (front ++ x ∷ back) → AllDistinct (front ++ back)
@@ -70,25 +72,24 @@ once (y ∷ front) back x d c = elim (Contains_cases y (front ++ back) x c) [
 ]
 
 -- a list with the elements of one without repeats, and no longer
-pub AllDistinct-from_same : {A : Type 0} (xs ys : List A) → AllDistinct ys → length xs ≤ length ys → ((z : A) → Contains xs z → Contains ys z) → ((z : A) → Contains ys z → Contains xs z) → AllDistinct xs
+pub AllDistinct-from_same : {A : Type 0} (xs ys : List A) → AllDistinct ys → length xs ≤ length ys → ((z : A) → Contains xs z → Contains ys z)
+    → ((z : A) → Contains ys z → Contains xs z) → AllDistinct xs
 AllDistinct-from_same [] ys d h f g = tt
 AllDistinct-from_same (x ∷ xs) ys d h f g =
-    let fresh : ¬ (Contains xs x) = λ c. absurd (omega (arith, length-le_from_within ys xs d (λ z p. elim (Contains_cases x xs z (g z p)) [ inl e ↦ subst (Contains xs) e c | inr q ↦ q ]))) in
+    let fresh : ¬ (Contains xs x) = λ c. absurd
+    (omega (arith, length-le_from_within ys xs d (λ z p. elim (Contains_cases x xs z (g z p)) [ inl e ↦ subst (Contains xs) e c | inr q ↦ q ]))) in
     let s : Occurrence ys x = occurrence ys x (f x (Contains-head x xs)) in
     let there : AllDistinct (s.front ++ x ∷ s.back) = subst AllDistinct s.is d in (
       fresh,
       AllDistinct-from_same xs (s.front ++ s.back) (AllDistinct-without s.front s.back x there)
           (omega (arith, ap length s.is, length-append s.front (x ∷ s.back), length-append s.front s.back))
           (λ z c. without s.front s.back x z (subst (λ t. Contains t z) s.is (f z (Contains-tail x xs z c))) (λ e. fresh (subst (Contains xs) (sym e) c)))
-          (λ z c. elim (Contains_cases x xs z (g z (subst (λ t. Contains t z) (sym s.is) (within s.front s.back x z c)))) [ inl e ↦ absurd (once s.front s.back x there (subst (Contains (s.front ++ s.back)) (sym e) c)) | inr q ↦ q ]),
+          (λ z c. elim (Contains_cases x xs z (g z (subst (λ t. Contains t z) (sym s.is) (within s.front s.back x z c)))) [
+            | inl e ↦ absurd
+                (once s.front s.back x there (subst (Contains (s.front ++ s.back)) (sym e) c))
+            | inr q ↦ q
+          ]),
     )
-
-pub AllDistinct-append : {A : Type 0} (xs ys : List A) → AllDistinct xs → AllDistinct ys → ((z : A) → Contains xs z → Contains ys z → ⊥) → AllDistinct (xs ++ ys)
-AllDistinct-append [] ys d e f = e
-AllDistinct-append (x ∷ xs) ys d e f = (
-  λ c. elim (Contains-append_cases xs ys x c) [ inl p ↦ d.0 p | inr q ↦ f x (Contains-head x xs) q ],
-  AllDistinct-append xs ys d.1 e (λ z p q. f z (Contains-tail x xs z p) q),
-)
 
 pub Contains-map : {A B : Type 0} (f : A → B) (xs : List A) (x : A) → Contains xs x → Contains (map f xs) (f x)
 Contains-map f [] x c = absurd (none_contained x c)
@@ -109,10 +110,12 @@ AllDistinct-from_map f [] d = tt
 AllDistinct-from_map f (x ∷ xs) d = (λ c. d.0 (Contains-map f xs x c), AllDistinct-from_map f xs d.1)
 
 -- a function that tells the elements apart
-pub AllDistinct-map : {A B : Type 0} (f : A → B) (xs : List A) → ((x y : A) → Contains xs x → Contains xs y → f x ≡ f y → x ≡ y) → AllDistinct xs → AllDistinct (map f xs)
+pub AllDistinct-map : {A B : Type 0} (f : A → B) (xs : List A) → ((x y : A) → Contains xs x → Contains xs y → f x ≡ f y → x ≡ y) → AllDistinct xs
+    → AllDistinct (map f xs)
 AllDistinct-map f [] apart d = tt
 AllDistinct-map {A = A} f (x ∷ xs) apart d = (
-  λ c. let r : (z : A) × Contains xs z × (f z ≡ f x) = Contains-from_map f xs (f x) c in d.0 (subst (Contains xs) (apart r.0 x (Contains-tail x xs r.0 r.1) (Contains-head x xs) r.2) r.1),
+  λ c. let r : (z : A) × Contains xs z × (f z ≡ f x) = Contains-from_map f xs (f x) c in
+      d.0 (subst (Contains xs) (apart r.0 x (Contains-tail x xs r.0 r.1) (Contains-head x xs) r.2) r.1),
   AllDistinct-map f xs (λ y z p q. apart y z (Contains-tail x xs y p) (Contains-tail x xs z q)) d.1,
 )
 
@@ -129,20 +132,34 @@ AllDistinct-from_sorted R n (x ∷ xs) s = (
   AllDistinct-from_sorted R n xs (sorted_tail R x xs s),
 )
 
-after_head : {A : Type 0} (R : A → A → Ordering) (x : A) (xs : List A) (z : A) → IsStrictlySortedBy R (x ∷ xs) → Contains xs z → R x z ≡ Less
+pub after_head : {A : Type 0} (R : A → A → Ordering) (x : A) (xs : List A) (z : A) → IsStrictlySortedBy R (x ∷ xs) → Contains xs z → R x z ≡ Less
 after_head R x xs z s c = All-contains (λ y. R x y ≡ Less) xs z (All-from_recursion (λ y. R x y ≡ Less) xs (sorted_head R x xs s)) c
 
 -- two lists in one order with the same elements are one
-pub same_sorted : {A : Type 0} (R : A → A → Ordering) → ((x : A) → ¬ (R x x ≡ Less)) → ((x y z : A) → R x y ≡ Less → R y z ≡ Less → R x z ≡ Less) → (xs ys : List A) → IsStrictlySortedBy R xs → IsStrictlySortedBy R ys → ((z : A) → Contains xs z → Contains ys z) → ((z : A) → Contains ys z → Contains xs z) → xs ≡ ys
+pub same_sorted : {A : Type 0} (R : A → A → Ordering) → ((x : A) → ¬ (R x x ≡ Less)) → ((x y z : A) → R x y ≡ Less → R y z ≡ Less → R x z ≡ Less)
+    → (xs ys : List A) → IsStrictlySortedBy R xs → IsStrictlySortedBy R ys → ((z : A) → Contains xs z → Contains ys z)
+    → ((z : A) → Contains ys z → Contains xs z) → xs ≡ ys
 same_sorted R n t [] [] s u f g = refl
 same_sorted R n t [] (y ∷ ys) s u f g = absurd (none_contained y (g y (Contains-head y ys)))
 same_sorted R n t (x ∷ xs) [] s u f g = absurd (none_contained x (f x (Contains-head x xs)))
 same_sorted R n t (x ∷ xs) (y ∷ ys) s u f g =
     let head : x ≡ y = elim (Contains_cases y ys x (f x (Contains-head x xs))) [
       | inl e ↦ sym e
-      | inr p ↦ elim (Contains_cases x xs y (g y (Contains-head y ys))) [ inl e ↦ e | inr q ↦ absurd (n x (t x y x (after_head R x xs y s q) (after_head R y ys x u p))) ]
+      | inr p ↦ elim (Contains_cases x xs y (g y (Contains-head y ys))) [
+        | inl e ↦ e
+        | inr q ↦ absurd
+            (n x (t x y x (after_head R x xs y s q) (after_head R y ys x u p)))
+      ]
     ] in
     let rest : xs ≡ ys = same_sorted R n t xs ys (sorted_tail R x xs s) (sorted_tail R y ys u)
-    (λ z c. elim (Contains_cases y ys z (f z (Contains-tail x xs z c))) [ inl e ↦ absurd (n z (subst (λ k. R k z ≡ Less) (head ∙ e) (after_head R x xs z s c))) | inr q ↦ q ])
-    (λ z c. elim (Contains_cases x xs z (g z (Contains-tail y ys z c))) [ inl e ↦ absurd (n z (subst (λ k. R k z ≡ Less) (sym head ∙ e) (after_head R y ys z u c))) | inr q ↦ q ]) in
+    (λ z c. elim (Contains_cases y ys z (f z (Contains-tail x xs z c))) [
+      | inl e ↦ absurd
+          (n z (subst (λ k. R k z ≡ Less) (head ∙ e) (after_head R x xs z s c)))
+      | inr q ↦ q
+    ])
+    (λ z c. elim (Contains_cases x xs z (g z (Contains-tail y ys z c))) [
+      | inl e ↦ absurd
+          (n z (subst (λ k. R k z ≡ Less) (sym head ∙ e) (after_head R y ys z u c)))
+      | inr q ↦ q
+    ]) in
     λ i. head i ∷ rest i

@@ -35,7 +35,8 @@ lead_cmp-IsAntisymmetric f p q e =
     let depths : Ordering = nat_cmp (depth_of (joined q)) (depth_of (joined p)) in
     let sums : Ordering = nat_cmp (rank_sum f q) (rank_sum f p) in
     let last : Ordering = slice_cmp word_cmp q p in
-    let tied : last ≡ Equal = then-Equal depths last (then-Equal sums (ordering_then depths last) (then-Equal (nat_cmp (length p) (length q)) (ordering_then sums (ordering_then depths last)) e)) in
+    let tied : last ≡ Equal = then-Equal depths last
+    (then-Equal sums (ordering_then depths last) (then-Equal (nat_cmp (length p) (length q)) (ordering_then sums (ordering_then depths last)) e)) in
     sym (slice_cmp-IsAntisymmetric word_cmp-IsAntisymmetric q p tied)
 
 pub Leads-irreflexive : (f : List Letter → ℕ) (p : List (List Letter)) → ¬ (Leads f p p)
@@ -67,10 +68,11 @@ depth_of-append u v = sum_by-append (λ a. cond (is_y a) 1 0) u v
 
 depth_of-put : (w : List Letter) (us : List (List Letter)) → depth_of (joined (put w us)) ≡ depth_of w + depth_of (joined us)
 depth_of-put w [] = depth_of-append w []
-depth_of-put w (u ∷ us) = elim (is_lt (word_cmp u w)) as (λ b. depth_of (joined (cond b (w ∷ u ∷ us) (u ∷ put w us))) ≡ depth_of w + depth_of (joined (u ∷ us))) [
-  | true ↦ depth_of-append w (u ++ joined us)
-  | false ↦ omega (arith, depth_of-append u (joined (put w us)), depth_of-append u (joined us), depth_of-put w us)
-]
+depth_of-put w (u ∷ us) = elim (is_lt (word_cmp u w))
+    as (λ b. depth_of (joined (cond b (w ∷ u ∷ us) (u ∷ put w us))) ≡ depth_of w + depth_of (joined (u ∷ us))) [
+      | true ↦ depth_of-append w (u ++ joined us)
+      | false ↦ omega (arith, depth_of-append u (joined (put w us)), depth_of-append u (joined us), depth_of-put w us)
+    ]
 
 pub nat_cmp-add : (k a b : ℕ) → nat_cmp (k + a) (k + b) ≡ nat_cmp a b
 nat_cmp-add k a b = sym (nat_cmp_is (k + a) (k + b) (nat_cmp a b) (go (nat_cmp a b) (ranks a b)))
@@ -83,14 +85,18 @@ nat_cmp-add k a b = sym (nat_cmp_is (k + a) (k + b) (nat_cmp a b) (go (nat_cmp a
 lead_cmp-put : (f : List Letter → ℕ) (w : List Letter) (p q : List (List Letter)) → lead_cmp f (put w p) (put w q) ≡ lead_cmp f p q
 lead_cmp-put f w p q =
     let long : (us : List (List Letter)) → length (put w us) ≡ 1 + length us = λ us. omega (arith, length-put w us) in
-    let length_cmp : nat_cmp (length (put w p)) (length (put w q)) ≡ nat_cmp (length p) (length q) = (λ i. nat_cmp (long p i) (long q i)) ∙ nat_cmp-add 1 (length p) (length q) in
-    let rank_cmp : nat_cmp (rank_sum f (put w q)) (rank_sum f (put w p)) ≡ nat_cmp (rank_sum f q) (rank_sum f p) = (λ i. nat_cmp (sum_by-put f w q i) (sum_by-put f w p i)) ∙ nat_cmp-add (f w) (rank_sum f q) (rank_sum f p) in
-    let depth_cmp : nat_cmp (depth_of (joined (put w q))) (depth_of (joined (put w p))) ≡ nat_cmp (depth_of (joined q)) (depth_of (joined p)) = (λ i. nat_cmp (depth_of-put w q i) (depth_of-put w p i)) ∙ nat_cmp-add (depth_of w) (depth_of (joined q)) (depth_of (joined p)) in
+    let length_cmp : nat_cmp (length (put w p)) (length (put w q)) ≡ nat_cmp (length p) (length q) =
+    (λ i. nat_cmp (long p i) (long q i)) ∙ nat_cmp-add 1 (length p) (length q) in
+    let rank_cmp : nat_cmp (rank_sum f (put w q)) (rank_sum f (put w p)) ≡ nat_cmp (rank_sum f q) (rank_sum f p) =
+    (λ i. nat_cmp (sum_by-put f w q i) (sum_by-put f w p i)) ∙ nat_cmp-add (f w) (rank_sum f q) (rank_sum f p) in
+    let depth_cmp : nat_cmp (depth_of (joined (put w q))) (depth_of (joined (put w p))) ≡ nat_cmp (depth_of (joined q)) (depth_of (joined p)) =
+    (λ i. nat_cmp (depth_of-put w q i) (depth_of-put w p i)) ∙ nat_cmp-add (depth_of w) (depth_of (joined q)) (depth_of (joined p)) in
     λ i. ordering_then (length_cmp i) (ordering_then (rank_cmp i) (ordering_then (depth_cmp i) (slice_cmp-put w q p i)))
 
 lead_cmp-product_of : (f : List Letter → ℕ) (r p q : List (List Letter)) → lead_cmp f (product_of r p) (product_of r q) ≡ lead_cmp f p q
 lead_cmp-product_of f [] p q = refl
 lead_cmp-product_of f (w ∷ r) p q = lead_cmp-product_of f r (put w p) (put w q) ∙ lead_cmp-put f w p q
 
-pub lead_cmp-product : (f : List Letter → ℕ) (p q r : List (List Letter)) → Falls p → Falls q → Falls r → lead_cmp f (product_of p r) (product_of q r) ≡ lead_cmp f p q
+pub lead_cmp-product : (f : List Letter → ℕ) (p q r : List (List Letter)) → Falls p → Falls q → Falls r
+    → lead_cmp f (product_of p r) (product_of q r) ≡ lead_cmp f p q
 lead_cmp-product f p q r fp fq fr = (λ i. lead_cmp f (product_of-comm p r fp fr i) (product_of-comm q r fq fr i)) ∙ lead_cmp-product_of f r p q

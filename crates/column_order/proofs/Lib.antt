@@ -3,7 +3,10 @@ pub mod LeadLaws
 pub mod Comparing
 pub mod Ranking
 pub mod Distinct
+pub mod SortedLists
 pub mod BinomialSums
 pub mod ColumnWords
 pub mod ColumnLists
 pub mod Places
+pub mod WordPlaces
+pub mod Preferring

@@ -51,7 +51,8 @@ before_put a w es (b ∷ bs) p = go (is_lt (word_cmp b w)) refl
   where
     go : (s : Bool) → is_lt (word_cmp b w) ≡ s → slice_cmp word_cmp (a ∷ es) (put w (b ∷ bs)) ≡ Less
     go true s = ap (slice_cmp word_cmp (a ∷ es)) (put-less w b bs s) ∙ ap (λ o. ordering_then o (slice_cmp word_cmp es (b ∷ bs))) p
-    go false s = ap (slice_cmp word_cmp (a ∷ es)) (put-behind w b bs s) ∙ ap (λ o. ordering_then o (slice_cmp word_cmp es (put w bs))) (less_through a w b p s)
+    go false s = ap (slice_cmp word_cmp (a ∷ es)) (put-behind w b bs s)
+        ∙ ap (λ o. ordering_then o (slice_cmp word_cmp es (put w bs))) (less_through a w b p s)
 
 empty_before_put : (w : List Letter) (bs : List (List Letter)) → slice_cmp word_cmp [] (put w bs) ≡ Less
 empty_before_put w [] = refl
@@ -66,10 +67,12 @@ alone_before_put w b bs = go (is_lt (word_cmp b w)) refl
   where
     go : (s : Bool) → is_lt (word_cmp b w) ≡ s → slice_cmp word_cmp (w ∷ []) (put w (b ∷ bs)) ≡ Less
     go true s = ap (slice_cmp word_cmp (w ∷ [])) (put-less w b bs s) ∙ ap (λ o. ordering_then o (slice_cmp word_cmp [] (b ∷ bs))) (itself w)
-    go false s = ap (slice_cmp word_cmp (w ∷ [])) (put-behind w b bs s) ∙ then-Less (word_cmp w b) (slice_cmp word_cmp [] (put w bs)) (not_greater w b s) (empty_before_put w bs)
+    go false s = ap (slice_cmp word_cmp (w ∷ [])) (put-behind w b bs s)
+        ∙ then-Less (word_cmp w b) (slice_cmp word_cmp [] (put w bs)) (not_greater w b s) (empty_before_put w bs)
 
 -- the first list begins with a word before w, the second with one that is not
-put_before_put : (w a b : List Letter) (es bs : List (List Letter)) → is_lt (word_cmp a w) ≡ true → is_lt (word_cmp b w) ≡ false → slice_cmp word_cmp (put w (a ∷ es)) (put w (b ∷ bs)) ≡ Less
+put_before_put : (w a b : List Letter) (es bs : List (List Letter)) → is_lt (word_cmp a w) ≡ true → is_lt (word_cmp b w) ≡ false
+    → slice_cmp word_cmp (put w (a ∷ es)) (put w (b ∷ bs)) ≡ Less
 put_before_put w a b es bs s t =
     (λ i. slice_cmp word_cmp (put-less w a es s i) (put-behind w b bs t i))
     ∙ then-Less (word_cmp w b) (slice_cmp word_cmp (a ∷ es) (put w bs)) (not_greater w b t) (before_put a w es bs (is_lt-Less (word_cmp a w) s))
@@ -83,14 +86,17 @@ slice_cmp-put w [] (b ∷ bs) = alone_before_put w b bs
 slice_cmp-put w (a ∷ es) [] = turned (put w (a ∷ es)) (put w []) (alone_before_put w a es)
 slice_cmp-put w (a ∷ es) (b ∷ bs) = go (slice_cmp-put w es bs) (is_lt (word_cmp a w)) (is_lt (word_cmp b w)) refl refl
   where
-    go : slice_cmp word_cmp (put w es) (put w bs) ≡ slice_cmp word_cmp es bs → (s t : Bool) → is_lt (word_cmp a w) ≡ s → is_lt (word_cmp b w) ≡ t → slice_cmp word_cmp (put w (a ∷ es)) (put w (b ∷ bs)) ≡ ordering_then (word_cmp a b) (slice_cmp word_cmp es bs)
+    go : slice_cmp word_cmp (put w es) (put w bs) ≡ slice_cmp word_cmp es bs → (s t : Bool) → is_lt (word_cmp a w) ≡ s → is_lt (word_cmp b w) ≡ t
+        → slice_cmp word_cmp (put w (a ∷ es)) (put w (b ∷ bs)) ≡ ordering_then (word_cmp a b) (slice_cmp word_cmp es bs)
     go again true true s t =
-        (λ i. slice_cmp word_cmp (put-less w a es s i) (put-less w b bs t i)) ∙ ap (λ o. ordering_then o (ordering_then (word_cmp a b) (slice_cmp word_cmp es bs))) (itself w)
+        (λ i. slice_cmp word_cmp (put-less w a es s i) (put-less w b bs t i))
+        ∙ ap (λ o. ordering_then o (ordering_then (word_cmp a b) (slice_cmp word_cmp es bs))) (itself w)
     go again true false s t =
         put_before_put w a b es bs s t ∙ sym (ap (λ o. ordering_then o (slice_cmp word_cmp es bs)) (less_through a w b (is_lt-Less (word_cmp a w) s) t))
     go again false true s t =
         let less : word_cmp b a ≡ Less = less_through b w a (is_lt-Less (word_cmp b w) t) s in
-        turned (put w (a ∷ es)) (put w (b ∷ bs)) (put_before_put w b a bs es t s) ∙ sym (ap (λ o. ordering_then o (slice_cmp word_cmp es bs)) (word_cmp_total.antisymm a b ∙ ap ordering_reverse less))
+        turned (put w (a ∷ es)) (put w (b ∷ bs)) (put_before_put w b a bs es t s)
+        ∙ sym (ap (λ o. ordering_then o (slice_cmp word_cmp es bs)) (word_cmp_total.antisymm a b ∙ ap ordering_reverse less))
     go again false false s t =
         (λ i. slice_cmp word_cmp (put-behind w a es s i) (put-behind w b bs t i)) ∙ ap (ordering_then (word_cmp a b)) again
 
@@ -104,7 +110,8 @@ put-put_less v w (u ∷ us) p = go (put-put_less v w us p) (is_lt (word_cmp u w)
     back : is_lt (word_cmp w v) ≡ false
     back = ap is_lt (word_cmp_total.antisymm w v ∙ ap ordering_reverse p)
 
-    go : put w (put v us) ≡ put v (put w us) → (s t : Bool) → is_lt (word_cmp u w) ≡ s → is_lt (word_cmp u v) ≡ t → put w (put v (u ∷ us)) ≡ put v (put w (u ∷ us))
+    go : put w (put v us) ≡ put v (put w us) → (s t : Bool) → is_lt (word_cmp u w) ≡ s → is_lt (word_cmp u v) ≡ t
+        → put w (put v (u ∷ us)) ≡ put v (put w (u ∷ us))
     go again true true s t =
         ap (put w) (put-less v u us t) ∙ put-less w v (u ∷ us) (ap is_lt p)
         ∙ sym (ap (put v) (put-less w u us s) ∙ put-behind v w (u ∷ us) back ∙ ap (λ t. w ∷ t) (put-less v u us t))

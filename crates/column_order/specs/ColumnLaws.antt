@@ -7,7 +7,7 @@ use Rattle.std.specs.Ordering.{eq_by_cmp, as_partial_cmp}
 use Rattle.std.proofs.lemmas.Cmp.{lists_total, nat_cmp_total, then_total, back_total}
 use Rattle.zeta_model.proofs.WordOrder.{word_cmp_total}
 use Rattle.column_order.specs.declared.column.Column.{Column}
-use Rattle.column_order.specs.Steps.{column_cmp}
+use Rattle.column_order.specs.Inner.{column_cmp}
 
 pub column_cmp_total : IsTotalOrder column_cmp
 column_cmp_total =

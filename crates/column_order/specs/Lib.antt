@@ -1,5 +1,7 @@
+pub mod Stored
 pub mod LeadOrder
 pub mod Ranks
+pub mod Rules
 pub mod Columns
-pub mod Steps
+pub mod Inner
 pub mod ColumnLaws

@@ -1,12 +1,15 @@
 //! A monomial with what the lead order asks of it, so that columns can be sorted.
-ghost use Rattle.std.specs.Prelude.{◌≡◌, ◌-◌, ◌≤◌, [], ◌∷◌, IfOk};
+ghost use Rattle.std.specs.Prelude.{◌≡◌, ℕ, ◌-◌, ◌≤◌, List, [], ◌∷◌, Some, slice_get, IsTrue, IfOk};
+ghost use Rattle.zeta_model.specs.declared.Letter.{Letter};
+ghost use Rattle.zeta_model.specs.WordLists.{admissible_within};
+ghost use Rattle.zeta_model.specs.Words.{is_admissible};
 ghost use Rattle.zeta_model.specs.declared.Letter.TheVariants.{X};
-ghost use Rattle.column_order.specs.Ranks.{AnswersRank, rank_of};
-ghost use Rattle.column_order.specs.Steps.{AreColumns, AreOf, words_behind};
+ghost use Rattle.column_order.specs.Ranks.{rank_of};
+ghost use Rattle.column_order.specs.Rules.{IsRule};
+ghost use Rattle.column_order.specs.Inner.{AreColumns, AreOf};
 
 use crate::lead_order::{Standing, lead_order};
 use crate::rank_rule::RankRule;
-use crate::words::admissible_words;
 use lyndon_words::{Monomial, factors};
 use std::alloc::{AllocError, Global};
 use std::cmp::Ordering;
@@ -21,7 +24,7 @@ pub(crate) struct Column {
 
 impl PartialEq for Column {
     ghost use Rattle.std.specs.Ordering.{eq_by_cmp};
-    ghost use Rattle.column_order.specs.Steps.{column_cmp};
+    ghost use Rattle.column_order.specs.Inner.{column_cmp};
     ghost use Rattle.column_order.specs.ColumnLaws.{column_eq_laws};
 
     ghost eq = { eq_by_cmp column_cmp };
@@ -41,7 +44,7 @@ impl Eq for Column {
 
 impl PartialOrd for Column {
     ghost use Rattle.std.specs.Ordering.{as_partial_cmp};
-    ghost use Rattle.column_order.specs.Steps.{column_cmp};
+    ghost use Rattle.column_order.specs.Inner.{column_cmp};
     ghost use Rattle.column_order.specs.ColumnLaws.{column_partial_laws};
 
     ghost partial_cmp = { as_partial_cmp column_cmp };
@@ -55,7 +58,7 @@ impl PartialOrd for Column {
 
 impl Ord for Column {
     ghost use Rattle.std.specs.Prelude.{refl};
-    ghost use Rattle.column_order.specs.Steps.{column_cmp};
+    ghost use Rattle.column_order.specs.Inner.{column_cmp};
     ghost use Rattle.column_order.specs.ColumnLaws.{column_cmp_total};
 
     ghost cmp = { column_cmp };
@@ -76,40 +79,36 @@ impl Ord for Column {
     }
 }
 
-/// The columns of a weight and a depth with their standings, in lead order.
+/// The columns of the words of a weight and a depth with their standings, in lead order.
 pub(crate) fn sorted_columns<F: Fn(Word) -> u32>(
     alloc: Global,
     w: u32,
     d: u32,
+    words: &[Word],
     rule: &RankRule<F>,
 ) -> Result<Vec<Column>, AllocError>
     requires least { 2 ≤ w }
-    requires most { w ≤ 24 }
-    requires some { 1 ≤ d }
-    requires answers { AnswersRank (λ w. F.pre rule.now.function w) (λ w r. F.post rule.now.function w r) rule.now.mode }
-    ensures { IfOk result (λ columns. AreColumns (rank_of rule.now.mode) w d columns.items) }
+    requires rule { IsRule F.Fn rule.now }
+    requires words { words.now ≡ admissible_within w d }
+    ensures { IfOk result (λ columns. AreColumns (rank_of rule.now.preference) w d columns.items) }
 {
-    let mut columns = columns_of(alloc, w, d, rule)?;
+    let mut columns = columns_of(alloc, words, rule)?;
     columns.sort()?;
     Ok(columns)
 }
 
-/// The columns of a weight and a depth with their standings, by their words.
+/// The columns of admissible words with their standings, one behind the other.
 fn columns_of<F: Fn(Word) -> u32>(
     alloc: Global,
-    w: u32,
-    d: u32,
+    words: &[Word],
     rule: &RankRule<F>,
 ) -> Result<Vec<Column>, AllocError>
-    requires least { 2 ≤ w }
-    requires most { w ≤ 24 }
-    requires some { 1 ≤ d }
-    requires answers { AnswersRank (λ w. F.pre rule.now.function w) (λ w r. F.post rule.now.function w r) rule.now.mode }
-    ensures { IfOk result (λ columns. AreOf (rank_of rule.now.mode) (words_behind (X ∷ []) (w - 2) (d - 1)) columns.items) }
+    requires rule { IsRule F.Fn rule.now }
+    requires admissible { (k : ℕ) (u : List Letter) → slice_get words.now k ≡ Some u → IsTrue (is_admissible u) }
+    ensures { IfOk result (λ columns. AreOf (rank_of rule.now.preference) words.now columns.items) }
 {
-    let words = admissible_words(alloc, w, d)?;
     let mut columns = Vec::with_capacity(alloc, words.len())?;
-    for word in &words {
+    for word in words {
         let monomial = factors(alloc, *word);
         let standing = rule.standing(&monomial);
         columns.push(Column { monomial, standing })?;

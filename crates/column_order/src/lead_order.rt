@@ -3,8 +3,9 @@ ghost use Rattle.std.specs.Prelude.{◌≡◌, ◌↔◌, IsTrue};
 ghost use Rattle.std.specs.Cmp.Lexicographic.{slice_cmp};
 ghost use Rattle.zeta_model.specs.Words.{word_cmp};
 ghost use Rattle.column_order.specs.LeadOrder.{Leads};
-ghost use Rattle.column_order.specs.Ranks.{AnswersRank, rank_of};
-ghost use Rattle.column_order.specs.Steps.{standing_cmp};
+ghost use Rattle.column_order.specs.Ranks.{rank_of};
+ghost use Rattle.column_order.specs.Rules.{IsRule};
+ghost use Rattle.column_order.specs.Inner.{standing_cmp};
 
 use crate::rank_rule::RankRule;
 use lyndon_words::Monomial;
@@ -19,10 +20,10 @@ pub(crate) struct Standing {
 }
 
 /// Whether a comes strictly before b in the lead order: it has fewer factors; of those with as many, the greater sum of ranks; then the
-/// greater depth; then the greater list of factors, compared factor by factor. The ranks are those that the rule's function answers.
+/// greater depth; then the greater list of factors, compared factor by factor. The ranks are those of the rule's preference.
 pub fn leads<F: Fn(Word) -> u32>(rule: &RankRule<F>, a: &Monomial, b: &Monomial) -> bool
-    requires answers { AnswersRank (λ w. F.pre rule.now.function w) (λ w r. F.post rule.now.function w r) rule.now.mode }
-    ensures { IsTrue result ↔ Leads (rank_of rule.now.mode) a.now b.now }
+    requires rule { IsRule F.Fn rule.now }
+    ensures { IsTrue result ↔ Leads (rank_of rule.now.preference) a.now b.now }
 {
     lead_order(a, rule.standing(a), b, rule.standing(b)) == Ordering::Less
 }

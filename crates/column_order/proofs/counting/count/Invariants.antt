@@ -1,5 +1,5 @@
 use Rattle.std.proofs.Common.{◌≡◌, ◌-◌, ◌*◌, ◌≤◌}
-use Rattle.column_order.specs.Columns.{binomial, binomial_sum}
+use Rattle.zeta_model.specs.WordLists.{binomial, binomial_sum}
 use Rattle.column_order.proofs.counting.count.Given as goal
 
 abbrev pub invariant-loop-r : goal.invariant-loop-r

@@ -1,5 +1,5 @@
 use Rattle.std.proofs.Common.{◌≡◌, ◌-◌, ◌<◌, ◌≤◌, ℕ, Some, length, slice_get}
-use Rattle.column_order.specs.Steps.{monomials_of}
+use Rattle.column_order.specs.Inner.{monomials_of}
 use Rattle.column_order.proofs.columns.Columns.search.Given as goal
 
 abbrev pub invariant-loop-low : goal.invariant-loop-low

@@ -1,4 +1,0 @@
-use Rattle.column_order.proofs.words.+push_words.Given as goal
-
-abbrev pub decreases-push_words : goal.decreases-push_words
-decreases-push_words l = l.more
