@@ -33,20 +33,23 @@ module _ {A : Type 0} (f : A → A) where
   next-changed_below [] (suc i) d = refl
   next-changed_below (x ∷ xs) (suc i) d = next-changed_below xs i d
 
-  set-changed_below : (xs : List A) (i : ℕ) (d : A) → i < length xs → slice_set (changed_below xs i) i (f (slice_index_or xs i d)) ≡ changed_below xs (suc i)
+  set-changed_below : (xs : List A) (i : ℕ) (d : A) → i < length xs
+      → slice_set (changed_below xs i) i (f (slice_index_or xs i d)) ≡ changed_below xs (suc i)
   set-changed_below [] i d h = absurd (omega arith)
   set-changed_below (x ∷ xs) zero d h = refl
   set-changed_below (x ∷ xs) (suc i) d h = ap (λ ys. f x ∷ ys) (set-changed_below xs i d (omega arith))
 
   -- one element more
-  pub changed_next : (xs now : List A) (i : ℕ) (d y : A) → now ≡ changed_below xs i → i < length xs → y ≡ f (slice_index_or now i d) → slice_set now i y ≡ changed_below xs (i + 1)
+  pub changed_next : (xs now : List A) (i : ℕ) (d y : A) → now ≡ changed_below xs i → i < length xs → y ≡ f (slice_index_or now i d)
+      → slice_set now i y ≡ changed_below xs (i + 1)
   changed_next xs now i d y e h is =
       let more : suc i ≡ i + 1 = omega arith in
       (λ t. slice_set (e t) i ((is ∙ ap (λ ys. f (slice_index_or ys i d)) e ∙ ap f (next-changed_below xs i d)) t))
       ∙ set-changed_below xs i d h ∙ ap (changed_below xs) more
 
   -- when all elements have been changed, the list is that of the changed ones
-  pub changed_whole : (xs now : List A) (i n : ℕ) → now ≡ changed_below xs i → i ≡ length xs → n ≡ length xs → take n (now ++ drop (length now) xs) ≡ map f xs
+  pub changed_whole : (xs now : List A) (i n : ℕ) → now ≡ changed_below xs i → i ≡ length xs → n ≡ length xs
+      → take n (now ++ drop (length now) xs) ≡ map f xs
   changed_whole xs now i n e all is =
       let whole : now ≡ map f xs = e ∙ ap (changed_below xs) all ∙ changed_below-length xs in
       let long : length now ≡ length xs = ap length e ∙ length-changed_below xs i in
@@ -54,5 +57,6 @@ module _ {A : Type 0} (f : A → A) where
       (λ t. take ((is ∙ sym long) t) (now ++ nothing t)) ∙ ap (take (length now)) (append-nil now) ∙ take-length now ∙ whole
 
 -- the next element is still of the ring
-pub has_next : {K E : Type 0} (has : E → Bool) (f : K × E → K × E) (xs now : List (K × E)) (i : ℕ) (d : K × E) → now ≡ changed_below f xs i → i < length xs → AllIn has xs → has (slice_index_or now i d).1 ≡ true
+pub has_next : {K E : Type 0} (has : E → Bool) (f : K × E → K × E) (xs now : List (K × E)) (i : ℕ) (d : K × E) → now ≡ changed_below f xs i → i < length xs
+    → AllIn has xs → has (slice_index_or now i d).1 ≡ true
 has_next has f xs now i d e h all = ap (λ ys. has (slice_index_or ys i d).1) e ∙ ap (λ p. has p.1) (next-changed_below f xs i d) ∙ has_at has xs i d all h

@@ -2,7 +2,7 @@
 ghost use Rattle.std.specs.Prelude.{◌≡◌, ℕ, ◌+◌, ◌*◌, ◌%◌, ◌<◌, ◌≤◌, true, List, [], ◌∷◌, length, nat_eq, if◌then◌else◌, IfSome, MatchOption};
 ghost use Rattle.std.specs.Option.{ForSome};
 ghost use Rattle.sparse_rows.specs.Entries.{entry_of, IsRow, AllIn};
-ghost use Rattle.sparse_rows.specs.Steps.{begins, IsFirst, value_or_zero};
+ghost use Rattle.sparse_rows.specs.Inner.{begins, IsFirst, value_or_zero};
 
 use crate::key::Key;
 use residues::Ring;

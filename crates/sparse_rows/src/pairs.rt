@@ -1,5 +1,5 @@
 //! Sparse rows: pairs of a key and a residue that is not zero, by increasing keys.
-ghost use Rattle.std.specs.Prelude.{◌≡◌, ◌≢◌, ℕ, ◌+◌, ◌*◌, ◌%◌, ◌<◌, ◌≤◌, ◌↔◌, true, Option, Some, List, [], ◌∷◌, ◌++◌, length, map, filter, not, IsNone, IfSome, OnOk, OnErr, slice_get};
+ghost use Rattle.std.specs.Prelude.{◌≡◌, ◌≢◌, ℕ, ◌+◌, ◌*◌, ◌%◌, ◌<◌, ◌≤◌, ◌↔◌, true, Option, Some, List, [], ◌∷◌, ◌++◌, length, map, filter, not, IsNone, IfSome, IfOk, OnOk, OnErr, slice_get};
 ghost use Rattle.sparse_rows.specs.Entries.{entry_of, IsRow, IsBelow, AllIn};
 
 use crate::key::Key;
@@ -51,10 +51,20 @@ impl<K: Key, R: Ring> Pairs<K, R> {
         self.pairs.as_slice()
     }
 
+    /// The same row in memory of its own, refused where there is none.
+    pub fn copy(&self) -> Result<Pairs<K, R>, AllocError>
+        ensures ok { IfOk result (λ row. row ≡ self.now) }
+        ensures row { IsRow K.number R.zero 0 self.now }
+    {
+        let pairs = Vec::from_slice(*self.pairs.allocator(), &self.pairs)?;
+        Ok(Pairs { pairs })
+    }
+
     /// The first key at which the row is not zero, with its residue; None for the zero row.
     pub fn lead(&self) -> Option<(K, R::Elem)>
         ensures zero { IsNone result ↔ (self.now ≡ []) }
         ensures first { IfSome result (λ lead. slice_get self.now 0 ≡ Some lead) }
+        ensures row { IsRow K.number R.zero 0 self.now }
     {
         match self.pairs.first() {
             Some(lead) => Some(*lead),
@@ -68,6 +78,7 @@ impl<K: Key, R: Ring> Pairs<K, R> {
         requires nonzero { residue ≢ R.zero }
         ensures ok { OnOk result (self.new ≡ self.old ++ (key, residue) ∷ []) }
         ensures err { OnErr result (self.new ≡ self.old) }
+        ensures row { IsRow K.number R.zero 0 self.new }
     {
         self.pairs.push((key, residue))?;
         Ok(())
@@ -96,6 +107,7 @@ impl<K: Key, R: Ring> Pairs<K, R> {
         ensures entries { (q : ℕ) → entry_of K.number (R.value ring.now) self.new q
             ≡ R.value ring.now c * entry_of K.number (R.value ring.now) self.old q % R.modulus ring.now }
         ensures in_ring { AllIn (R.has ring.now) self.new }
+        ensures row { IsRow K.number R.zero 0 self.new }
     {
         multiply_all(ring, c, &mut self.pairs);
         drop_zeros(ring, &mut self.pairs);
@@ -115,6 +127,7 @@ impl<K: Key, R: Ring> Pairs<K, R> {
             ≡ (entry_of K.number (R.value ring.now) self.old q + R.value ring.now c * entry_of K.number (R.value ring.now) other.now q) % R.modulus ring.now) }
         ensures in_ring { AllIn (R.has ring.now) self.new }
         ensures err { OnErr result (self.new ≡ self.old) }
+        ensures row { IsRow K.number R.zero 0 self.new }
     {
         let mut sum = Vec::new(*self.pairs.allocator());
         let mut left = self.pairs.as_slice();

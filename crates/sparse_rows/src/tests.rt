@@ -50,6 +50,8 @@ fn a_row_begins_at_its_lead(rt: HostRuntime) -> Result<(), Fail> {
     ] {
         let row = row_of(rt.alloc(), &ring, &numbers)?;
         assert_eq!(rt; row.lead(), lead, "{numbers:?}");
+        let copy = row.copy()?;
+        assert_eq!(rt; copy.entries(), row.entries(), "a copy of {numbers:?}");
         for (col, number) in numbers.iter().enumerate() {
             assert_eq!(rt;
                 row.entry(&ring, col as u16),

@@ -18,5 +18,8 @@ loop-key-preserved g c =
 pub returns-clause-ok : goal.returns-clause-ok
 returns-clause-ok g c =
     let ends = c.in_default.ensures in
-    λ q. done _ _ _ _ _ _ _ _ _ _ _ c.loop-key.invariant ends.0 ends.1 (omega (arith, g.met.R.Ring.modulus_from c.args.ring.now)) (g.met.R.Ring.value_below c.args.ring.now) q
-    ∙ (λ i. (entry_of g.K.Key.number (g.R.Ring.value c.args.ring.now) ((c.as_slice-left.ensures.value ∙ c.self.view_is) i) q + g.R.Ring.value c.args.ring.now c.args.c * entry_of g.K.Key.number (g.R.Ring.value c.args.ring.now) ((c.as_slice-right.ensures.value ∙ c.other.view_is) i) q) % g.R.Ring.modulus c.args.ring.now)
+    λ q. done _ _ _ _ _ _ _ _ _ _ _ c.loop-key.invariant ends.0 ends.1 (omega (arith, g.met.R.Ring.modulus_from c.args.ring.now))
+    (g.met.R.Ring.value_below c.args.ring.now) q
+    ∙ (λ i. (entry_of g.K.Key.number (g.R.Ring.value c.args.ring.now)
+    ((c.as_slice-left.ensures.value ∙ c.self.view_is) i) q + g.R.Ring.value c.args.ring.now c.args.c * entry_of g.K.Key.number
+    (g.R.Ring.value c.args.ring.now) ((c.as_slice-right.ensures.value ∙ c.other.view_is) i) q) % g.R.Ring.modulus c.args.ring.now)

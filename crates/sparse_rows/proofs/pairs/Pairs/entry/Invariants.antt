@@ -6,7 +6,8 @@ abbrev pub invariant-loop-first : goal.invariant-loop-first
 invariant-loop-first g l =
     ((low : ℕ) × IsRow g.K.Key.number g.R.Ring.zero low l.rest)
     × AllIn (g.R.Ring.has l.ring) l.rest
-    × (entry_of g.K.Key.number (g.R.Ring.value l.ring) l.initial.rest (g.K.Key.number l.key) ≡ entry_of g.K.Key.number (g.R.Ring.value l.ring) l.rest (g.K.Key.number l.key))
+    × (entry_of g.K.Key.number (g.R.Ring.value l.ring) l.initial.rest (g.K.Key.number l.key)
+    ≡ entry_of g.K.Key.number (g.R.Ring.value l.ring) l.rest (g.K.Key.number l.key))
 
 abbrev pub decreases-loop-first : goal.decreases-loop-first
 decreases-loop-first g l = length l.rest

@@ -8,3 +8,6 @@ invariant_of-self-2 g c =
     subst (IsRow g.K.Key.number g.R.Ring.zero 0) (sym c.in_ok-push.ensures.items)
     (IsRow-append g.K.Key.number g.R.Ring.zero 0 c.args.key c.args.residue c.self.inside.pairs.items (omega arith) c.self.invariant
     (subst (IsBelow g.K.Key.number (g.K.Key.number c.args.key)) (sym c.self.view_is) c.requires.behind) c.requires.nonzero)
+
+pub returns-clause-row : goal.returns-clause-row
+returns-clause-row g c = invariant_of-self-2 g c

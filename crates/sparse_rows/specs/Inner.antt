@@ -1,4 +1,5 @@
--- One step of the merge of two rows: the key that comes first, and what stands there.
+-- What single steps of the code answer. No public clause cites these, so a reader need not believe them.
+-- Here: one step of the merge of two rows, the key that comes first, and what stands there.
 use Rattle.std.specs.Prelude.{ℕ, ◌+◌, ◌<◌, ◌≤◌, nat_eq, if◌then◌else◌, Option, Some, None, List, [], ◌∷◌}
 
 module _ {K E : Type 0} where
