@@ -1,5 +1,4 @@
 pub mod Cutting
-pub mod Talking
 pub mod Under
 pub mod Whole
 pub mod Ending

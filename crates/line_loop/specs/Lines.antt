@@ -50,7 +50,8 @@ input_limit = 67108864
 
 -- all that is said to an input
 abbrev pub whole_output : ℕ → (List ℕ → List ℕ) → List ℕ → List ℕ
-whole_output limit reply input = if nat_lt limit (length input) then answers reply (cut (take limit input)).0 ++ too_much_text else answers reply (lines input)
+whole_output limit reply input = if nat_lt limit (length input) then answers reply (cut (take limit input)).0 ++ too_much_text else answers reply
+    (lines input)
 
 abbrev pub IsPrefix : List ℕ → List ℕ → Type 0
 IsPrefix part whole = (rest : List ℕ) × (whole ≡ part ++ rest)

@@ -9,6 +9,12 @@ use Rattle.line_loop.specs.Lines.{cut, lines, answers, whole_output, too_much_te
 abbrev pub Tells : Option (List ℕ) → List ℕ → Type 0
 Tells told bytes = IfSome told (λ xs. xs ≡ bytes)
 
+-- at most so many bytes were taken
+pub record TakesAtMost (most : ℕ) (left left_new : Option (List ℕ)) : Type 0 where
+  pub seen : List ℕ
+  pub read : left ≡ before_told seen left_new
+  pub bounded : length seen ≤ most
+
 -- a first part of all that is said to the bytes that were read and more, which is what is left where that is told
 abbrev pub SaidInPart : ℕ → (List ℕ → List ℕ) → List ℕ → List ℕ → Option (List ℕ) → Type 0
 SaidInPart limit reply seen said left = (more : List ℕ) × Tells left more × IsPrefix said (whole_output limit reply (seen ++ more))
@@ -21,12 +27,13 @@ Ends limit reply seen said left TooMuchInput = (length seen ≡ limit + 1) × (s
 Ends limit reply seen said left WriteFault = SaidInPart limit reply seen said left
 Ends limit reply seen said left Memory = SaidInPart limit reply seen said left
 
--- some bytes were read, and some were said
+-- some bytes were read, never more than one past the limit, and some were said
 pub record Talks (limit : ℕ) (reply : List ℕ → List ℕ) (left left_new taken taken_new : Option (List ℕ)) (ended : Ended) : Type 0 where
   pub seen : List ℕ
   pub said : List ℕ
   pub read : left ≡ before_told seen left_new
   pub wrote : taken_new ≡ after_told taken said
+  pub bounded : length seen ≤ limit + 1
   pub ends : Ends limit reply seen said left_new ended
 
 -- an end that nothing broke off

@@ -31,6 +31,10 @@ fn finish_line<R: Replier>(
     ensures replies { OnOk result (replies.new.items ≡ replies.old.items ++ answer_to (R.reply_to replier.now) (line.old.items ++ front.now)) }
     ensures line { OnOk result (line.new.items ≡ []) }
 {
+    // A line that lies whole in the piece is not copied.
+    if line.is_empty() {
+        return answer(replier, front, replies);
+    }
     line.extend_from_slice(front)?;
     answer(replier, line, replies)?;
     line.clear();

@@ -148,30 +148,13 @@ fn piece_buffer(alloc: Global) -> Result<Vec<u8>, AllocError>
     vec![in alloc; 0; PIECE]
 }
 
-// The same, with a buffer of its own.
-fn converse<R: Replier, S: Source, K: Sink>(
-    alloc: Global,
-    replier: &R,
-    source: &mut S,
-    sink: &mut K,
-) -> Ended
-    ensures talks { Talks input_limit (R.reply_to replier.now) (S.left source.old) (S.left source.new) (K.taken sink.old) (K.taken sink.new) result }
-    ensures read { result ≡ Ended.ReadFault → Rose (S.faults source.old) (S.faults source.new) }
-    ensures write { result ≡ Ended.WriteFault → Rose (K.faults sink.old) (K.faults sink.new) }
-{
-    match piece_buffer(alloc) {
-        Ok(mut buffer) => converse_in(alloc, replier, &mut buffer, source, sink),
-        Err(_) => Ended::Memory,
-    }
-}
-
 /// Reads lines to the end of the source, and gives each its reply and the byte 10.
 ///
-/// A line ends at the byte 10; bytes behind the last one are one more line, where there are any. Before each read
-/// the replies to all lines that are whole in the bytes read so far are written. At most `LIMIT` bytes are input:
+/// A line ends at the byte 10; bytes behind the last one are one more line, where there are any. Where a read fails,
+/// the replies to all lines that are whole in the bytes read until then are written. At most `LIMIT` bytes are input:
 /// where these were taken and one byte more comes, `too much input` is written after the replies to the lines that
-/// are whole within the limit. What is said is then all that `whole_output` says, or where `Ended` is `Memory`,
-/// `ReadFault` or `WriteFault`, a first part of it.
+/// are whole within the limit. However it ends, no byte past that one is taken from the source. What is said is all
+/// that `whole_output` says, or where `Ended` is `Memory`, `ReadFault` or `WriteFault`, a first part of it.
 pub fn answer_lines<R: Replier, S: Source, K: Sink>(
     alloc: Global,
     replier: &R,
@@ -183,5 +166,8 @@ pub fn answer_lines<R: Replier, S: Source, K: Sink>(
     ensures read_fault_only { result ≡ Ended.ReadFault → Rose (S.faults source.old) (S.faults source.new) }
     ensures write_fault_only { result ≡ Ended.WriteFault → Rose (K.faults sink.old) (K.faults sink.new) }
 {
-    converse(alloc, replier, source, sink)
+    match piece_buffer(alloc) {
+        Ok(mut buffer) => converse_in(alloc, replier, &mut buffer, source, sink),
+        Err(_) => Ended::Memory,
+    }
 }

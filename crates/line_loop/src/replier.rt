@@ -1,5 +1,5 @@
 //! What gives a line its reply.
-ghost use Rattle.std.specs.Prelude.{◌≡◌, ◌++◌, ℕ, List, OnOk};
+ghost use Rattle.std.specs.Prelude.{◌≡◌, ◌++◌, ℕ, List, OnOk, OnErr};
 
 use std::alloc::AllocError;
 
@@ -10,7 +10,8 @@ pub trait Replier {
 
     /// Puts the reply to `line` behind what `out` holds. `line` is without the byte 10 that ended it.
     ///
-    /// `Err` is want of memory alone, and then `out` is not to be used: it may hold a part of the reply.
+    /// `Err` is want of memory alone, and then `out` is as before.
     fn reply(&self, line: &[u8], out: &mut Vec<u8>) -> Result<(), AllocError>
-        ensures ok { OnOk result (out.new.items ≡ out.old.items ++ reply_to self.now line.now) };
+        ensures ok { OnOk result (out.new.items ≡ out.old.items ++ reply_to self.now line.now) }
+        ensures err { OnErr result (out.new.items ≡ out.old.items) };
 }

@@ -17,11 +17,15 @@ loop-length-preserved g c =
 
 pub returns-clause-replies : goal.returns-clause-replies
 returns-clause-replies g c =
-    let missing = subst (IsFirstByte (is_byte 10) (take (length c.args.piece.now - c.loop-length.at) (drop c.loop-length.at c.args.piece.now))) c.in_default.is c.memchr.ensures in
-    on_ok_so c.extend_from_slice.result (replies_done (g.R.Replier.reply_to c.args.replier.now) c.loop-length.replies.items c.loop-length.line.items c.args.piece.now _ c.loop-length.at missing c.loop-length.invariant.replies)
+    let missing = subst (IsFirstByte (is_byte 10)
+    (take (length c.args.piece.now - c.loop-length.at) (drop c.loop-length.at c.args.piece.now))) c.in_default.is c.memchr.ensures in
+    on_ok_so c.extend_from_slice.result
+    (replies_done (g.R.Replier.reply_to c.args.replier.now) c.loop-length.replies.items c.loop-length.line.items c.args.piece.now _ c.loop-length.at missing c.loop-length.invariant.replies)
 
 pub returns-clause-line : goal.returns-clause-line
 returns-clause-line g c =
-    let missing = subst (IsFirstByte (is_byte 10) (take (length c.args.piece.now - c.loop-length.at) (drop c.loop-length.at c.args.piece.now))) c.in_default.is c.memchr.ensures in
-    on_ok_appended c.extend_from_slice.result c.loop-length.line.items (take (length c.args.piece.now - c.loop-length.at) (drop c.loop-length.at c.args.piece.now)) _ _ c.extend_from_slice.ensures.items
+    let missing = subst (IsFirstByte (is_byte 10)
+    (take (length c.args.piece.now - c.loop-length.at) (drop c.loop-length.at c.args.piece.now))) c.in_default.is c.memchr.ensures in
+    on_ok_appended c.extend_from_slice.result c.loop-length.line.items
+    (take (length c.args.piece.now - c.loop-length.at) (drop c.loop-length.at c.args.piece.now)) _ _ c.extend_from_slice.ensures.items
     (line_done c.loop-length.line.items c.args.piece.now _ c.loop-length.at missing c.loop-length.invariant.line)
