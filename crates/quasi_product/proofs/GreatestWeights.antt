@@ -28,7 +28,8 @@ module _ {E : Type 0} where
   greatest_length [] = 0
   greatest_length (e ∷ es) = max (length e.0) (greatest_length es)
 
-  pub greatest_length-first : (w : Word) (c : E) (before rest : List (Word × E)) → before ≡ (w, c) ∷ rest → greatest_length before ≡ max (length w) (greatest_length rest)
+  pub greatest_length-first : (w : Word) (c : E) (before rest : List (Word × E)) → before ≡ (w, c) ∷ rest
+      → greatest_length before ≡ max (length w) (greatest_length rest)
   unfolding greatest_length
   greatest_length-first w c before rest is = ap greatest_length is
 

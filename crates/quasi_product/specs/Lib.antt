@@ -1,3 +1,2 @@
-pub mod Gains
 pub mod SumProducts
-pub mod Cells
+pub mod Inner

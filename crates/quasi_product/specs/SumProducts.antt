@@ -1,13 +1,9 @@
 -- The product of two sums: the product of words continued linearly on both sides.
-use Rattle.std.specs.Prelude.{◌≡◌, ℕ, ◌+◌, ◌≤◌, List, length, map, All, Contains}
+use Rattle.std.specs.Prelude.{◌≡◌, ℕ, ◌+◌, ◌≤◌, List, length, All, Contains}
 use Rattle.std.specs.Map.{keys_of}
 use Rattle.zeta_model.specs.declared.Letter.{Letter}
 use Rattle.zeta_model.specs.Product.{Alphabet, prod}
 use Rattle.zeta_model.specs.Sums.{Sum, sum_of, continued}
-
--- each word with the number that its element stands for
-abbrev pub numbered : {E : Type 0} → (E → ℕ) → List (List Letter × E) → List (ℕ × List Letter)
-numbered value terms = map (λ term. (value term.1, term.0)) terms
 
 -- the product of the word u and the sum of the terms
 abbrev pub product_with_terms : Alphabet → List (ℕ × List Letter) → List Letter → Sum

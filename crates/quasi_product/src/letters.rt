@@ -1,9 +1,8 @@
 //! What a product takes for letters.
-ghost use Rattle.std.specs.Prelude.{◌≡◌, ◌+◌, ◌<◌, ◌≤◌, true, length, List, [], ◌∷◌};
+ghost use Rattle.std.specs.Prelude.{◌≡◌, ◌+◌, ◌<◌, ◌≤◌, true, length};
 ghost use Rattle.zeta_model.specs.Alphabets.{first_z as first_z_of};
 ghost use Rattle.zeta_model.specs.Product.{Alphabet, AlphabetLaws, IsLetter};
 ghost use Rattle.zeta_model.specs.Words.{ends_with_y};
-ghost use Rattle.zeta_model.specs.declared.Letter.TheVariants.{X};
 
 use word_letters::{Letter, Word};
 
@@ -50,7 +49,7 @@ impl Letters for ShuffleLetters {
     }
 
     fn first(w: Word) -> Word {
-        alone(w.letter(0))
+        Word::of(w.letter(0))
     }
 
     fn join(_a: Word, _b: Word) -> Option<Word> {
@@ -79,32 +78,7 @@ impl Letters for StuffleLetters {
     }
 
     fn join(a: Word, b: Word) -> Option<Word> {
-        let mut z = alone(Letter::Y);
-        for i in 1..a.weight() + b.weight() {
-            z = behind_x(z);
-        }
-        Some(z)
-    }
-}
-
-/// The word of one letter.
-fn alone(a: Letter) -> Word
-    ensures { result ≡ a ∷ [] }
-{
-    match Word::empty().push_front(a) {
-        Ok(w) => w,
-        Err(_) => Word::empty(),
-    }
-}
-
-/// The word with x before it.
-fn behind_x(w: Word) -> Word
-    requires { length w < 24 }
-    ensures { result ≡ X ∷ w }
-{
-    match w.push_front(Letter::X) {
-        Ok(longer) => longer,
-        Err(_) => w,
+        Some(Word::z(a.weight() + b.weight()))
     }
 }
 
@@ -115,7 +89,7 @@ fn first_z(w: Word) -> Word
     ensures within { length result ≤ length w }
 {
     match w.letter(0) {
-        Letter::Y => alone(Letter::Y),
-        Letter::X => behind_x(first_z(w.tail())),
+        Letter::Y => Word::of(Letter::Y),
+        Letter::X => first_z(w.tail()).in_front(Letter::X),
     }
 }

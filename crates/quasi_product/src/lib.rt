@@ -9,15 +9,13 @@
 pub use fault::ProductFault;
 pub use laws::product_laws;
 pub use letters::{Letters, ShuffleLetters, StuffleLetters};
-pub use products::product;
-pub use sums::{covers_sum, product_sums};
+pub use products::{product, product_within};
+pub use sums::{covers_sum, product_sums, product_sums_within};
 
 mod fault;
 mod laws;
 mod letters;
 mod merging;
-#[cfg(test)]
-mod plain;
 mod products;
 mod rows;
 mod sums;

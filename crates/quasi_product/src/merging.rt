@@ -1,9 +1,8 @@
 //! Lists of terms, each with a word in front, merged by their words.
 ghost use Rattle.std.specs.Prelude.{◌≡◌, ◌++◌, IfNone, IfSome, IfOk, OnOk, [], map};
-ghost use Rattle.quasi_product.specs.Cells.{FitBehind, IsMerged, IsTaken};
+ghost use Rattle.quasi_product.specs.Inner.{FitBehind, IsMerged, IsTaken};
 ghost use Rattle.word_sums.specs.Terms.{AllIn};
 
-use crate::products::joined;
 use residues::Ring;
 use std::alloc::{AllocError, Global};
 use std::cmp::Ordering;
@@ -60,7 +59,7 @@ pub(crate) fn add_behind<R: Ring>(
 {
     let mut rest = list;
     while let Some((term, behind)) = rest.split_first() {
-        terms.push((joined(front, term.0), term.1))?;
+        terms.push((front.followed_by(term.0), term.1))?;
         rest = behind;
     }
     Ok(())
@@ -114,12 +113,12 @@ fn split_greatest<'a, R: Ring>(
 {
     match (left.split_first(), right.split_first()) {
         (Some((x, xs)), Some((y, ys))) => match x.0.cmp(&y.0) {
-            Ordering::Less => Some(((joined(front, y.0), y.1), left, ys)),
-            Ordering::Greater => Some(((joined(front, x.0), x.1), xs, right)),
-            Ordering::Equal => Some(((joined(front, x.0), ring.add(x.1, y.1)), xs, ys)),
+            Ordering::Less => Some(((front.followed_by(y.0), y.1), left, ys)),
+            Ordering::Greater => Some(((front.followed_by(x.0), x.1), xs, right)),
+            Ordering::Equal => Some(((front.followed_by(x.0), ring.add(x.1, y.1)), xs, ys)),
         },
-        (Some((x, xs)), None) => Some(((joined(front, x.0), x.1), xs, right)),
-        (None, Some((y, ys))) => Some(((joined(front, y.0), y.1), left, ys)),
+        (Some((x, xs)), None) => Some(((front.followed_by(x.0), x.1), xs, right)),
+        (None, Some((y, ys))) => Some(((front.followed_by(y.0), y.1), left, ys)),
         (None, None) => None,
     }
 }

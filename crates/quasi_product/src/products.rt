@@ -1,10 +1,10 @@
 //! The product of two words.
-ghost use Rattle.std.specs.Prelude.{◌≡◌, ℕ, ◌+◌, ◌%◌, ◌<◌, ◌≤◌, ◌↔◌, ◌++◌, true, length, drop, List, OnOk, IfOk, IfSome, IsErrOf};
-ghost use Rattle.quasi_product.specs.Gains.{Gains};
+ghost use Rattle.std.specs.Prelude.{◌≡◌, ℕ, ◌+◌, ◌<◌, ◌≤◌, ◌↔◌, true, length, All, OnOk, IfOk, IfSome, IsErrOf};
+ghost use Rattle.std.specs.Map.{keys_of};
+ghost use Rattle.word_sums.specs.Sums.{IsSum, IsSumOf, HasGained};
 ghost use Rattle.word_sums.specs.Terms.{coefficient_of, AllIn};
 ghost use Rattle.zeta_model.specs.Product.{IsLetter, prod, rest};
 ghost use Rattle.zeta_model.specs.Sums.{scaled, sum_of};
-ghost use Rattle.zeta_model.specs.declared.Letter.{Letter};
 
 use crate::rows::product_terms;
 use crate::{Letters, ProductFault};
@@ -25,9 +25,8 @@ pub fn product<L: Letters, R: Ring>(
 ) -> Result<WordSum<R>, ProductFault>
     requires covers_u { L.alphabet.covered u ≡ true }
     requires covers_v { L.alphabet.covered v ≡ true }
-    ensures value { IfOk result (λ sum. (t : List Letter) → coefficient_of (R.value ring.now) sum t
-        ≡ sum_of (prod L.alphabet u v) t % R.modulus ring.now) }
-    ensures in_ring { IfOk result (λ sum. AllIn (R.has ring.now) sum) }
+    ensures value { IfOk result (IsSumOf R.zero (R.has ring.now) (R.value ring.now) (R.modulus ring.now) (sum_of (prod L.alphabet u v))) }
+    ensures covered { IfOk result (λ sum. All (λ w. L.alphabet.covered w ≡ true) (keys_of sum)) }
     ensures fits { OnOk result (length u + length v ≤ 24) }
     ensures too_long { (n : ℕ) →
         IsErrOf result (ProductFault.TooLong n) ↔ ((n ≡ length u + length v) × (24 < n)) }
@@ -36,14 +35,14 @@ pub fn product<L: Letters, R: Ring>(
     if weight > MAX_WEIGHT {
         return Err(ProductFault::TooLong(weight));
     }
-    match product_sum::<L, R>(alloc, ring, u, v) {
+    match product_within::<L, R>(alloc, ring, u, v) {
         Ok(sum) => Ok(sum),
         Err(e) => Err(ProductFault::Memory(e)),
     }
 }
 
-/// The product of two covered words of at most 24 letters together.
-fn product_sum<L: Letters, R: Ring>(
+/// The product of two covered words that have at most 24 letters together. Memory may be wanting.
+pub fn product_within<L: Letters, R: Ring>(
     alloc: Global,
     ring: &R,
     u: Word,
@@ -52,9 +51,8 @@ fn product_sum<L: Letters, R: Ring>(
     requires covers_u { L.alphabet.covered u ≡ true }
     requires covers_v { L.alphabet.covered v ≡ true }
     requires fits { length u + length v ≤ 24 }
-    ensures value { IfOk result (λ sum. (t : List Letter) → coefficient_of (R.value ring.now) sum t
-        ≡ sum_of (prod L.alphabet u v) t % R.modulus ring.now) }
-    ensures in_ring { IfOk result (λ sum. AllIn (R.has ring.now) sum) }
+    ensures value { IfOk result (IsSumOf R.zero (R.has ring.now) (R.value ring.now) (R.modulus ring.now) (sum_of (prod L.alphabet u v))) }
+    ensures covered { IfOk result (λ sum. All (λ w. L.alphabet.covered w ≡ true) (keys_of sum)) }
 {
     let terms = product_terms::<L, R>(alloc, ring, ring.one(), u, v)?;
     let mut sum = WordSum::with_capacity(alloc, terms.len())?;
@@ -75,11 +73,9 @@ pub(crate) fn add_product<L: Letters, R: Ring>(
     requires covers_v { L.alphabet.covered v ≡ true }
     requires fits { length u + length v ≤ 24 }
     requires has_c { R.has ring.now c ≡ true }
-    requires in_ring { AllIn (R.has ring.now) sum.old }
-    requires below { (t : List Letter) → coefficient_of (R.value ring.now) sum.old t < R.modulus ring.now }
-    ensures ok { OnOk result (Gains (R.modulus ring.now) (coefficient_of (R.value ring.now) sum.old)
-        (coefficient_of (R.value ring.now) sum.new) (scaled (R.value ring.now c) (sum_of (prod L.alphabet u v)))) }
-    ensures in_ring { AllIn (R.has ring.now) sum.new }
+    requires sum { IsSum R.zero (R.has ring.now) sum.old }
+    ensures ok { OnOk result (HasGained (R.value ring.now) (R.modulus ring.now) sum.old sum.new (scaled (R.value ring.now c) (sum_of (prod L.alphabet u v)))) }
+    ensures sum { OnOk result (IsSum R.zero (R.has ring.now) sum.new) }
 {
     let terms = product_terms::<L, R>(alloc, ring, c, u, v)?;
     add_terms(ring, terms.as_slice(), sum)?;
@@ -93,11 +89,9 @@ fn add_terms<R: Ring>(
     sum: &mut WordSum<R>,
 ) -> Result<(), AllocError>
     requires terms_in_ring { AllIn (R.has ring.now) terms.now }
-    requires in_ring { AllIn (R.has ring.now) sum.old }
-    requires below { (t : List Letter) → coefficient_of (R.value ring.now) sum.old t < R.modulus ring.now }
-    ensures ok { OnOk result (Gains (R.modulus ring.now) (coefficient_of (R.value ring.now) sum.old)
-        (coefficient_of (R.value ring.now) sum.new) (coefficient_of (R.value ring.now) terms.now)) }
-    ensures in_ring { AllIn (R.has ring.now) sum.new }
+    requires sum { IsSum R.zero (R.has ring.now) sum.old }
+    ensures ok { OnOk result (HasGained (R.value ring.now) (R.modulus ring.now) sum.old sum.new (coefficient_of (R.value ring.now) terms.now)) }
+    ensures sum { OnOk result (IsSum R.zero (R.has ring.now) sum.new) }
 {
     let mut rest = terms;
     while let Some((term, behind)) = rest.split_first() {
@@ -120,7 +114,7 @@ pub(crate) fn cut<L: Letters>(w: Word) -> (Word, Word)
     ensures weights { length result.0 + length result.1 ≡ length w }
 {
     let a = L::first(w);
-    (a, behind(w, a.weight()))
+    (a, w.without_front(a.weight()))
 }
 
 /// What two letters join to, of their weight together.
@@ -132,27 +126,4 @@ pub(crate) fn join_letters<L: Letters>(a: Word, b: Word) -> Option<Word>
     ensures weight { IfSome result (λ c. length c ≡ length a + length b) }
 {
     L::join(a, b)
-}
-
-/// The word behind its first `n` letters.
-fn behind(w: Word, n: u32) -> Word
-    requires { n ≤ length w }
-    ensures { result ≡ drop n w }
-{
-    let mut rest = w;
-    for i in 0..n {
-        rest = rest.tail();
-    }
-    rest
-}
-
-/// One word with another behind it.
-pub(crate) fn joined(front: Word, w: Word) -> Word
-    requires { length front + length w ≤ 24 }
-    ensures { result ≡ front ++ w }
-{
-    match front.concat(w) {
-        Ok(whole) => whole,
-        Err(_) => w,
-    }
 }

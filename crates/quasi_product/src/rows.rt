@@ -1,6 +1,6 @@
 //! Products by rows: one word times each suffix of another, from the shortest suffixes on.
 ghost use Rattle.std.specs.Prelude.{◌≡◌, ℕ, ◌+◌, ◌<◌, ◌≤◌, ◌-◌, true, All, IfOk, List, [], ◌∷◌, length, slice_index_or};
-ghost use Rattle.quasi_product.specs.Cells.{AreSuffixes, IsCell, IsFirstRow, IsHead, IsRow};
+ghost use Rattle.quasi_product.specs.Inner.{AreSuffixes, IsCell, IsFirstRow, IsHead, IsRow};
 ghost use Rattle.zeta_model.specs.Product.{prod, rest};
 
 use crate::Letters;

@@ -1,11 +1,10 @@
 //! The product of two sums.
-ghost use Rattle.std.specs.Prelude.{◌≡◌, ℕ, ◌+◌, ◌%◌, ◌<◌, ◌≤◌, ◌↔◌, true, All, List, length, OnOk, IfOk, IsErrOf, IsTrue};
+ghost use Rattle.std.specs.Prelude.{◌≡◌, ℕ, ◌+◌, ◌<◌, ◌≤◌, ◌↔◌, true, All, length, OnOk, IfOk, IsErrOf, IsTrue};
 ghost use Rattle.std.specs.Map.{keys_of};
-ghost use Rattle.quasi_product.specs.Gains.{Gains};
-ghost use Rattle.quasi_product.specs.SumProducts.{numbered, product_with_terms, product_of_terms, HasWeight, AreWithin, IsGreatestWeight};
-ghost use Rattle.word_sums.specs.Terms.{coefficient_of, AllIn};
-ghost use Rattle.zeta_model.specs.Sums.{scaled};
-ghost use Rattle.zeta_model.specs.declared.Letter.{Letter};
+ghost use Rattle.quasi_product.specs.SumProducts.{product_with_terms, product_of_terms, HasWeight, AreWithin, IsGreatestWeight};
+ghost use Rattle.word_sums.specs.Sums.{IsSum, IsSumOf, HasGained};
+ghost use Rattle.word_sums.specs.Terms.{AllIn};
+ghost use Rattle.zeta_model.specs.Sums.{numbered, scaled};
 
 use crate::products::add_product;
 use crate::{Letters, ProductFault};
@@ -28,9 +27,9 @@ pub fn product_sums<L: Letters, R: Ring>(
     requires covers_b { All (λ v. L.alphabet.covered v ≡ true) (keys_of b.now) }
     requires a_in_ring { AllIn (R.has ring.now) a.now }
     requires b_in_ring { AllIn (R.has ring.now) b.now }
-    ensures value { IfOk result (λ sum. (t : List Letter) → coefficient_of (R.value ring.now) sum t
-        ≡ product_of_terms L.alphabet (numbered (R.value ring.now) a.now) (numbered (R.value ring.now) b.now) t % R.modulus ring.now) }
-    ensures in_ring { IfOk result (λ sum. AllIn (R.has ring.now) sum) }
+    ensures value { IfOk result (IsSumOf R.zero (R.has ring.now) (R.value ring.now) (R.modulus ring.now)
+        (product_of_terms L.alphabet (numbered (R.value ring.now) a.now) (numbered (R.value ring.now) b.now))) }
+    ensures covered { IfOk result (λ sum. All (λ w. L.alphabet.covered w ≡ true) (keys_of sum)) }
     ensures fits { OnOk result (AreWithin 24 a.now b.now) }
     ensures too_long { (n : ℕ) →
         IsErrOf result (ProductFault.TooLong n) ↔ (IsGreatestWeight a.now b.now n × (24 < n)) }
@@ -39,11 +38,32 @@ pub fn product_sums<L: Letters, R: Ring>(
     if weight > MAX_WEIGHT {
         return Err(ProductFault::TooLong(weight));
     }
-    let mut sum = WordSum::new(alloc);
-    match add_sum_product::<L, R>(alloc, ring, a, b, &mut sum) {
-        Ok(()) => Ok(sum),
+    match product_sums_within::<L, R>(alloc, ring, a, b) {
+        Ok(sum) => Ok(sum),
         Err(e) => Err(ProductFault::Memory(e)),
     }
+}
+
+/// The product of two sums of covered words, where each word of the one and each word of the other have at most 24 letters
+/// together. Memory may be wanting.
+pub fn product_sums_within<L: Letters, R: Ring>(
+    alloc: Global,
+    ring: &R,
+    a: &WordSum<R>,
+    b: &WordSum<R>,
+) -> Result<WordSum<R>, AllocError>
+    requires covers_a { All (λ u. L.alphabet.covered u ≡ true) (keys_of a.now) }
+    requires covers_b { All (λ v. L.alphabet.covered v ≡ true) (keys_of b.now) }
+    requires fits { AreWithin 24 a.now b.now }
+    requires a_in_ring { AllIn (R.has ring.now) a.now }
+    requires b_in_ring { AllIn (R.has ring.now) b.now }
+    ensures value { IfOk result (IsSumOf R.zero (R.has ring.now) (R.value ring.now) (R.modulus ring.now)
+        (product_of_terms L.alphabet (numbered (R.value ring.now) a.now) (numbered (R.value ring.now) b.now))) }
+    ensures covered { IfOk result (λ sum. All (λ w. L.alphabet.covered w ≡ true) (keys_of sum)) }
+{
+    let mut sum = WordSum::new(alloc);
+    add_sum_product::<L, R>(alloc, ring, a, b, &mut sum)?;
+    Ok(sum)
 }
 
 /// Whether the product covers each word of the sum.
@@ -84,11 +104,10 @@ fn add_sum_product<L: Letters, R: Ring>(
     requires fits { AreWithin 24 a.now b.now }
     requires a_in_ring { AllIn (R.has ring.now) a.now }
     requires b_in_ring { AllIn (R.has ring.now) b.now }
-    requires in_ring { AllIn (R.has ring.now) sum.old }
-    requires below { (t : List Letter) → coefficient_of (R.value ring.now) sum.old t < R.modulus ring.now }
-    ensures ok { OnOk result (Gains (R.modulus ring.now) (coefficient_of (R.value ring.now) sum.old) (coefficient_of (R.value ring.now) sum.new)
+    requires sum { IsSum R.zero (R.has ring.now) sum.old }
+    ensures ok { OnOk result (HasGained (R.value ring.now) (R.modulus ring.now) sum.old sum.new
         (product_of_terms L.alphabet (numbered (R.value ring.now) a.now) (numbered (R.value ring.now) b.now))) }
-    ensures in_ring { AllIn (R.has ring.now) sum.new }
+    ensures sum { OnOk result (IsSum R.zero (R.has ring.now) sum.new) }
 {
     for (u, c) in a.iter() {
         add_word_product::<L, R>(alloc, ring, *c, *u, b, sum)?;
@@ -110,11 +129,10 @@ fn add_word_product<L: Letters, R: Ring>(
     requires fits { All (λ v. length u + length v ≤ 24) (keys_of b.now) }
     requires has_c { R.has ring.now c ≡ true }
     requires b_in_ring { AllIn (R.has ring.now) b.now }
-    requires in_ring { AllIn (R.has ring.now) sum.old }
-    requires below { (t : List Letter) → coefficient_of (R.value ring.now) sum.old t < R.modulus ring.now }
-    ensures ok { OnOk result (Gains (R.modulus ring.now) (coefficient_of (R.value ring.now) sum.old) (coefficient_of (R.value ring.now) sum.new)
+    requires sum { IsSum R.zero (R.has ring.now) sum.old }
+    ensures ok { OnOk result (HasGained (R.value ring.now) (R.modulus ring.now) sum.old sum.new
         (scaled (R.value ring.now c) (product_with_terms L.alphabet (numbered (R.value ring.now) b.now) u))) }
-    ensures in_ring { AllIn (R.has ring.now) sum.new }
+    ensures sum { OnOk result (IsSum R.zero (R.has ring.now) sum.new) }
 {
     for (v, d) in b.iter() {
         add_product::<L, R>(alloc, ring, ring.mul(c, *d), u, *v, sum)?;

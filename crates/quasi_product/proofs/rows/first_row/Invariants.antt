@@ -1,5 +1,5 @@
 use Rattle.std.proofs.Common.{◌≡◌, length}
-use Rattle.quasi_product.specs.Cells.{IsFirstRow}
+use Rattle.quasi_product.specs.Inner.{IsFirstRow}
 use Rattle.quasi_product.proofs.rows.first_row.Given as goal
 
 abbrev pub invariant-loop-suffix : goal.invariant-loop-suffix

@@ -5,4 +5,5 @@ use Rattle.quasi_product.proofs.sums.covers_sum.Given as goal
 
 abbrev pub invariant-loop-word : goal.invariant-loop-word
 invariant-loop-word g l =
-    All (λ w. g.L.Letters.alphabet.covered w ≡ true) (keys_of l.word-iterator) ↔ All (λ w. g.L.Letters.alphabet.covered w ≡ true) (keys_of l.initial.word-iterator)
+    All (λ w. g.L.Letters.alphabet.covered w ≡ true) (keys_of l.word-iterator) ↔ All (λ w. g.L.Letters.alphabet.covered w ≡ true)
+    (keys_of l.initial.word-iterator)

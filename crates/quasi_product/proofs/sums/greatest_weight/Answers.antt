@@ -8,7 +8,8 @@ use Rattle.quasi_product.proofs.sums.greatest_weight.Goals as goal
 pub loop-word-preserved : goal.loop-word-preserved
 loop-word-preserved g c =
     let first = greatest_length-first c.in-Some.word.now c.in-Some.field-0-1.now c.loop-word.word-iterator c.next.new.self c.in-Some.ensures.steps in
-    let greater : c.max-greatest.result ≡ max c.loop-word.greatest (length c.in-Some.word.now) = c.max-greatest.ensures ∙ ord_max-nat_cmp c.loop-word.greatest c.weight.result ∙ ap (max c.loop-word.greatest) c.weight.ensures.length in
+    let greater : c.max-greatest.result ≡ max c.loop-word.greatest (length c.in-Some.word.now) =
+    c.max-greatest.ensures ∙ ord_max-nat_cmp c.loop-word.greatest c.weight.result ∙ ap (max c.loop-word.greatest) c.weight.ensures.length in
     (omega (arith, c.weight.ensures), omega (arith, first, c.loop-word.invariant.1))
 
 pub returns-clause-most : goal.returns-clause-most

@@ -1,3 +1,4 @@
+-- What single steps of the code answer. No public clause cites these, so a reader need not believe them.
 -- Terms that stand for a list of words, and rows of them: one word times each suffix of another.
 use Rattle.std.specs.Prelude.{◌≡◌, ℕ, ◌+◌, ◌-◌, ◌*◌, ◌<◌, ◌≤◌, Bool, true, List, [], ◌∷◌, ◌++◌, length, All, slice_index_or}
 use Rattle.std.specs.Map.{keys_of}
@@ -5,29 +6,29 @@ use Rattle.word_sums.specs.Terms.{AllIn}
 use Rattle.zeta_model.specs.declared.Letter.{Letter}
 use Rattle.zeta_model.specs.Modular.{Same}
 use Rattle.zeta_model.specs.Product.{Alphabet, IsLetter, rest, prod, total}
+use Rattle.zeta_model.specs.Sums.{weighted}
 use Rattle.quasi_product.specs.declared.rows.Suffix.{Suffix}
 
 module _ {E : Type 0} where
-  -- the sum of f over the words of the terms, each times its number
-  abbrev pub weighted : (E → ℕ) → (List Letter → ℕ) → List (List Letter × E) → ℕ
-  weighted value f [] = 0
-  weighted value f (term ∷ terms) = value term.1 * f term.0 + weighted value f terms
-
   -- the word of each term has at most n letters, with the front before it
   abbrev pub FitBehind : ℕ → List Letter → List (List Letter × E) → Type 0
   FitBehind n front terms = All (λ w. length front + length w ≤ n) (keys_of terms)
 
   -- the first of two lists of terms behind fronts, by the sum of f over their words, and what is left of the lists
-  pub record IsTaken (has : E → Bool) (value : E → ℕ) (m : ℕ) (a : List Letter) (left : List (List Letter × E)) (b : List Letter) (right : List (List Letter × E)) (term : List Letter × E) (left_rest right_rest : List (List Letter × E)) : Type 0 where
+  pub record IsTaken (has : E → Bool) (value : E → ℕ) (m : ℕ) (a : List Letter) (left : List (List Letter × E))
+      (b : List Letter) (right : List (List Letter × E)) (term : List Letter × E) (left_rest right_rest : List (List Letter × E)) : Type 0 where
     pub has_it : has term.1 ≡ true
     pub left_in : AllIn has left_rest
     pub right_in : AllIn has right_rest
     pub within : (n : ℕ) → FitBehind n a left → FitBehind n b right → (length term.0 ≤ n) × FitBehind n a left_rest × FitBehind n b right_rest
-    pub counts : (f : List Letter → ℕ) → Same m (value term.1 * f term.0 + (weighted value (λ w. f (a ++ w)) left_rest + weighted value (λ w. f (b ++ w)) right_rest)) (weighted value (λ w. f (a ++ w)) left + weighted value (λ w. f (b ++ w)) right)
+    pub counts : (f : List Letter → ℕ)
+        → Same m (value term.1 * f term.0 + (weighted value (λ w. f (a ++ w)) left_rest + weighted value (λ w. f (b ++ w)) right_rest))
+        (weighted value (λ w. f (a ++ w)) left + weighted value (λ w. f (b ++ w)) right)
     pub shorter : length left_rest + length right_rest < length left + length right
 
   -- the terms of both lists, each behind its front
-  pub record IsMerged (has : E → Bool) (value : E → ℕ) (m : ℕ) (a : List Letter) (left : List (List Letter × E)) (b : List Letter) (right terms : List (List Letter × E)) : Type 0 where
+  pub record IsMerged (has : E → Bool) (value : E
+      → ℕ) (m : ℕ) (a : List Letter) (left : List (List Letter × E)) (b : List Letter) (right terms : List (List Letter × E)) : Type 0 where
     pub in_ring : AllIn has terms
     pub within : (n : ℕ) → FitBehind n a left → FitBehind n b right → All (λ w. length w ≤ n) (keys_of terms)
     pub counts : (f : List Letter → ℕ) → Same m (weighted value f terms) (weighted value (λ w. f (a ++ w)) left + weighted value (λ w. f (b ++ w)) right)
@@ -39,8 +40,11 @@ module _ {E : Type 0} where
     pub counts : (f : List Letter → ℕ) → Same m (weighted value f terms) (k * total f words)
 
   -- k times the product of u with each of the first suffixes
-  pub record IsRow {C : Type 0} (terms_of : C → List (List Letter × E)) (has : E → Bool) (value : E → ℕ) (m k : ℕ) (L : Alphabet) (u : List Letter) (suffixes : List Suffix) (row : List C) : Type 0 where
-    pub cell : (i : ℕ) (c : C) (s : Suffix) → i < length row → IsCell has value m k (length u + length (slice_index_or suffixes i s).word) (terms_of (slice_index_or row i c)) (prod L u (slice_index_or suffixes i s).word)
+  pub record IsRow {C : Type 0} (terms_of : C → List (List Letter × E)) (has : E → Bool) (value : E → ℕ) (m k : ℕ)
+      (L : Alphabet) (u : List Letter) (suffixes : List Suffix) (row : List C) : Type 0 where
+    pub cell : (i : ℕ) (c : C) (s : Suffix) → i < length row
+        → IsCell has value m k (length u + length (slice_index_or suffixes i s).word) (terms_of (slice_index_or row i c))
+        (prod L u (slice_index_or suffixes i s).word)
 
   -- c times the word without letters with each of the first suffixes: each cell has one term
   pub record IsFirstRow {C : Type 0} (terms_of : C → List (List Letter × E)) (c : E) (suffixes : List Suffix) (row : List C) : Type 0 where
