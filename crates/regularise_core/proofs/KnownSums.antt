@@ -3,7 +3,7 @@ use Rattle.std.proofs.Common.{◌≡◌, ℕ, zero, suc, ◌+◌, ◌-◌, ◌*�
 use Rattle.zeta_model.specs.declared.Letter.{Letter}
 use Rattle.zeta_model.specs.Modular.{Same}
 use Rattle.zeta_model.specs.Product.{total}
-use Rattle.zeta_model.specs.Sums.{Sum, same_word, single, sum_of, continued}
+use Rattle.zeta_model.specs.Sums.{Sum, same_word, single, sum_of, numbered, continued}
 use Rattle.zeta_model.proofs.ModularLemmas.{same-add_right, same-mul_right, same-opposite}
 use Rattle.zeta_model.proofs.WordOrder.{same_word-one, same_word-itself}
 use Rattle.word_sums.specs.Terms.{coefficient_of}
@@ -91,7 +91,8 @@ module _ (m : ℕ) (pos : 0 < m) where
   weighted_known ps qs same g =
       let p : ℕ = weighted g ps in
       let q : ℕ = weighted g qs in
-      let zero_sum : Same m (p + q * (m - 1)) 0 = sym (ap (λ n. n % m) (apart g)) ∙ zero_weighted (length (ps ++ opposite qs)) (ps ++ opposite qs) (omega arith) none g in
+      let zero_sum : Same m (p + q * (m - 1)) 0 = sym (ap (λ n. n % m) (apart g))
+      ∙ zero_weighted (length (ps ++ opposite qs)) (ps ++ opposite qs) (omega arith) none g in
       let turn : p + q + q * (m - 1) ≡ p + q * (m - 1) + q = omega arith in
       sym (same-opposite m p q pos) ∙ ap (λ n. n % m) turn ∙ same-add_right m (p + q * (m - 1)) 0 q zero_sum ∙ ap (λ n. n % m) (omega arith)
     where
@@ -102,13 +103,16 @@ module _ (m : ℕ) (pos : 0 < m) where
       none t =
           let q : ℕ = given qs t in
           let from_zero : q + q * (m - 1) ≡ 0 + q + q * (m - 1) = omega arith in
-          ap (λ n. n % m) (apart (λ w. single w t)) ∙ same-add_right m (given ps t) q (q * (m - 1)) (same t) ∙ ap (λ n. n % m) from_zero ∙ same-opposite m 0 q pos
+          ap (λ n. n % m) (apart (λ w. single w t)) ∙ same-add_right m (given ps t) q (q * (m - 1)) (same t) ∙ ap (λ n. n % m) from_zero
+          ∙ same-opposite m 0 q pos
 
   -- so a map that is continued has the same sum for both
-  pub continued_same : (ps qs : List (ℕ × Word)) → ((t : Word) → Same m (continued single ps t) (continued single qs t)) → (f : Word → Sum) (t : Word) → Same m (continued f ps t) (continued f qs t)
+  pub continued_same : (ps qs : List (ℕ × Word)) → ((t : Word) → Same m (continued single ps t) (continued single qs t)) → (f : Word → Sum) (t : Word)
+      → Same m (continued f ps t) (continued f qs t)
   continued_same ps qs same f t =
       ap (λ n. n % m) (weighted-continued f ps t)
-      ∙ weighted_known ps qs (λ r. ap (λ n. n % m) (sym (weighted-continued single ps r)) ∙ same r ∙ ap (λ n. n % m) (weighted-continued single qs r)) (λ w. f w t)
+      ∙ weighted_known ps qs (λ r. ap (λ n. n % m) (sym (weighted-continued single ps r)) ∙ same r ∙ ap (λ n. n % m) (weighted-continued single qs r))
+      (λ w. f w t)
       ∙ ap (λ n. n % m) (sym (weighted-continued f qs t))
 
 -- each word of a list once
@@ -120,8 +124,9 @@ continued-ones f [] t = refl
 continued-ones f (w ∷ ws) t = omega (arith, continued-ones f ws t)
 
 -- terms that give each word the number of its places in a list, modulo m, are as good as the list for every map of words
-pub continued_known : {E : Type 0} (m : ℕ) (value : E → ℕ) (terms : List (Word × E)) (ws : List Word) → 0 < m → ((t : Word) → Same m (coefficient_of value terms t) (sum_of ws t))
-    → (f : Word → Sum) (t : Word) → Same m (continued f (map (λ term. (value term.1, term.0)) terms) t) (total (λ w. f w t) ws)
+pub continued_known : {E : Type 0} (m : ℕ) (value : E → ℕ) (terms : List (Word × E)) (ws : List Word) → 0 < m
+    → ((t : Word) → Same m (coefficient_of value terms t) (sum_of ws t))
+    → (f : Word → Sum) (t : Word) → Same m (continued f (numbered value terms) t) (total (λ w. f w t) ws)
 continued_known m value terms ws pos same f t =
-    continued_same m pos (map (λ term. (value term.1, term.0)) terms) (ones ws) (λ r. same r ∙ ap (λ n. n % m) (sym (continued-ones single ws r))) f t
+    continued_same m pos (numbered value terms) (ones ws) (λ r. same r ∙ ap (λ n. n % m) (sym (continued-ones single ws r))) f t
     ∙ ap (λ n. n % m) (continued-ones f ws t)

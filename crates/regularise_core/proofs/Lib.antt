@@ -1,6 +1,4 @@
 pub mod KnownSums
-pub mod Continuing
-pub mod LeadingY
-pub mod LeastWords
+pub mod Signs
 pub mod OneWord
 pub mod RegularSums

@@ -1,10 +1,10 @@
 //! The laws of the regularisation. The function does nothing: its contract is the theorem.
-ghost use Rattle.std.specs.Prelude.{◌≡◌, ℕ, ◌<◌, true, List, All, length, map};
+ghost use Rattle.std.specs.Prelude.{◌≡◌, ℕ, ◌<◌, true, List, All, length};
 ghost use Rattle.std.specs.Map.{keys_of};
 ghost use Rattle.word_sums.specs.Terms.{coefficient_of};
 ghost use Rattle.zeta_model.specs.Modular.{Same};
 ghost use Rattle.zeta_model.specs.Regularise.{reg_of_sum, IsRegularised};
-ghost use Rattle.zeta_model.specs.Sums.{continued, single};
+ghost use Rattle.zeta_model.specs.Sums.{continued, numbered, single};
 ghost use Rattle.zeta_model.specs.Words.{ends_with_y, is_admissible};
 ghost use Rattle.zeta_model.specs.declared.Letter.{Letter};
 
@@ -16,7 +16,7 @@ use residues::Ring;
 /// admissible words of that weight (Ihara, Kaneko and Zagier 2006).
 pub fn reg_laws<R: Ring>()
     ensures admissible { (ring : R) (terms : List (List Letter × R.Elem)) → All (λ w. is_admissible w ≡ true) (keys_of terms) → (t : List Letter)
-        → reg_of_sum (R.modulus ring) (map (λ term. (R.value ring term.1, term.0)) terms) t ≡ coefficient_of (R.value ring) terms t }
+        → reg_of_sum (R.modulus ring) (numbered (R.value ring) terms) t ≡ coefficient_of (R.value ring) terms t }
     ensures identity { (j : ℕ) (u : List Letter) → IsRegularised j u }
     ensures coefficients { (m : ℕ) (terms others : List (ℕ × List Letter)) → 0 < m
         → ((t : List Letter) → Same m (continued single terms t) (continued single others t))

@@ -11,7 +11,6 @@ pub use regularise::reg;
 
 mod fault;
 mod laws;
-mod letters;
 mod regularise;
 mod shuffles;
 #[cfg(test)]

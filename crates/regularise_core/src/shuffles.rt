@@ -1,15 +1,14 @@
 //! What is added for one word: x before each word of a shuffle, with a sign.
-ghost use Rattle.std.specs.Prelude.{◌≡◌, ℕ, ◌+◌, ◌*◌, ◌%◌, ◌<◌, ◌≤◌, ◌≢◌, ◌∷◌, true, length, map, List, OnOk, IfOk};
-ghost use Rattle.word_sums.specs.Terms.{coefficient_of, AllIn};
-ghost use Rattle.zeta_model.specs.Alphabets.{shuffle_of};
+ghost use Rattle.std.specs.Prelude.{◌≡◌, ◌*◌, ◌<◌, ◌∷◌, true, length, All, OnOk};
+ghost use Rattle.std.specs.Map.{keys_of};
+ghost use Rattle.word_sums.specs.Sums.{IsSum, HasGained};
+ghost use Rattle.word_sums.specs.Terms.{AllIn};
 ghost use Rattle.zeta_model.specs.Modular.{Same};
 ghost use Rattle.zeta_model.specs.Regularise.{sign_of, reg_of};
-ghost use Rattle.zeta_model.specs.Sums.{single, sum_of, continued};
-ghost use Rattle.zeta_model.specs.declared.Letter.{Letter};
+ghost use Rattle.zeta_model.specs.Sums.{single, scaled, numbered, continued};
 ghost use Rattle.zeta_model.specs.declared.Letter.TheVariants.{X};
 
-use crate::letters::{behind, leading_y};
-use quasi_product::{ProductFault, ShuffleLetters, product};
+use quasi_product::{ShuffleLetters, product_within};
 use residues::Ring;
 use std::alloc::{AllocError, Global};
 use word_letters::{Letter, Word};
@@ -23,14 +22,13 @@ pub(crate) fn add_regularised<R: Ring>(
     c: R::Elem,
     sum: &mut WordSum<R>,
 ) -> Result<(), AllocError>
-    requires in_ring { AllIn (R.has ring.now) sum.old }
+    requires sum { IsSum R.zero (R.has ring.now) sum.old }
     requires has_c { R.has ring.now c ≡ true }
-    requires below { (t : List Letter) → coefficient_of (R.value ring.now) sum.old t < R.modulus ring.now }
-    ensures ok { OnOk result ((t : List Letter) → coefficient_of (R.value ring.now) sum.new t
-        ≡ (coefficient_of (R.value ring.now) sum.old t + R.value ring.now c * reg_of (R.modulus ring.now) word t) % R.modulus ring.now) }
-    ensures in_ring { AllIn (R.has ring.now) sum.new }
+    ensures ok { OnOk result (HasGained (R.value ring.now) (R.modulus ring.now) sum.old sum.new
+        (scaled (R.value ring.now c) (reg_of (R.modulus ring.now) word))) }
+    ensures sum { OnOk result (IsSum R.zero (R.has ring.now) sum.new) }
 {
-    let (front, rest) = leading_y(word);
+    let (front, rest) = word.split_y();
     if front.weight() == 0 {
         sum.add_term(ring, word, c)?;
         return Ok(());
@@ -38,23 +36,9 @@ pub(crate) fn add_regularised<R: Ring>(
     if rest.weight() == 0 {
         return Ok(());
     }
-    let words = shuffled(alloc, ring, front, rest.tail())?;
+    let words = product_within::<ShuffleLetters, R>(alloc, ring, front, rest.tail())?;
     add_behind_x(ring, signed(ring, front.weight(), c), &words, sum)?;
     Ok(())
-}
-
-/// The shuffle of two words.
-fn shuffled<R: Ring>(alloc: Global, ring: &R, u: Word, v: Word) -> Result<WordSum<R>, AllocError>
-    requires { length u + length v ≤ 24 }
-    ensures value { IfOk result (λ sum. (t : List Letter) → coefficient_of (R.value ring.now) sum t
-        ≡ sum_of (shuffle_of u v) t % R.modulus ring.now) }
-    ensures in_ring { IfOk result (λ sum. AllIn (R.has ring.now) sum) }
-{
-    match product::<ShuffleLetters, R>(alloc, ring, u, v) {
-        Ok(words) => Ok(words),
-        Err(ProductFault::Memory(e)) => Err(e),
-        Err(ProductFault::TooLong(_)) => unreachable!(),
-    }
 }
 
 /// The element times -1 to the power j.
@@ -73,18 +57,16 @@ fn add_behind_x<R: Ring>(
     words: &WordSum<R>,
     sum: &mut WordSum<R>,
 ) -> Result<(), AllocError>
-    requires sum_in_ring { AllIn (R.has ring.now) sum.old }
+    requires sum { IsSum R.zero (R.has ring.now) sum.old }
     requires words_in_ring { AllIn (R.has ring.now) words.now }
     requires has_c { R.has ring.now c ≡ true }
-    requires below { (t : List Letter) → coefficient_of (R.value ring.now) sum.old t < R.modulus ring.now }
-    requires fits { (t : List Letter) → coefficient_of (R.value ring.now) words.now t ≢ 0 → length t < 24 }
-    ensures ok { OnOk result ((t : List Letter) → coefficient_of (R.value ring.now) sum.new t
-        ≡ (coefficient_of (R.value ring.now) sum.old t
-        + continued (λ w r. R.value ring.now c * single (X ∷ w) r) (map (λ term. (R.value ring.now term.1, term.0)) words.now) t) % R.modulus ring.now) }
-    ensures in_ring { AllIn (R.has ring.now) sum.new }
+    requires fits { All (λ w. length w < 24) (keys_of words.now) }
+    ensures ok { OnOk result (HasGained (R.value ring.now) (R.modulus ring.now) sum.old sum.new
+        (scaled (R.value ring.now c) (continued (λ w. single (X ∷ w)) (numbered (R.value ring.now) words.now)))) }
+    ensures sum { OnOk result (IsSum R.zero (R.has ring.now) sum.new) }
 {
     for (word, residue) in words.iter() {
-        sum.add_term(ring, behind(Letter::X, *word), ring.mul(c, *residue))?;
+        sum.add_term(ring, word.in_front(Letter::X), ring.mul(c, *residue))?;
     }
     Ok(())
 }

@@ -1,5 +1,5 @@
 use Rattle.std.proofs.Common.{ap, ◌∙◌}
-use Rattle.regularise_core.proofs.LeadingY.{even_sign, odd_sign}
+use Rattle.regularise_core.proofs.Signs.{even_sign, odd_sign}
 use Rattle.regularise_core.proofs.shuffles.signed.Goals as goal
 
 pub returns-then-j-eq0-clause-value : goal.returns-then-j-eq0-clause-value
