@@ -1,6 +1,5 @@
 pub mod FilterLemmas
 pub mod NameBounds
-pub mod WordListLemmas
 pub mod ListingLemmas
 pub mod Members
 pub mod WholeListing
@@ -9,3 +8,4 @@ pub mod ValueLemmas
 pub mod HeldWords
 pub mod ProductWords
 pub mod ValueWords
+pub mod ListingLengths

@@ -2,88 +2,9 @@
 use Rattle.std.proofs.Common.{◌≡◌, ◌≢◌, ℕ, ◌+◌, ◌<◌, ◌≤◌, zero, suc, ◌⊎◌, inl, inr, Bool, true, false, cond, List, [], ◌∷◌, ◌++◌, map, filter, Contains, AllPairs, refl, sym, ap, subst, ◌∙◌, arith}
 use Rattle.std.specs.List.{flat_map, range_with_len}
 use Rattle.std.proofs.lemmas.List.{get_or_default}
-use Rattle.std.proofs.lemmas.List.Elements.{Contains-append_left, Contains-append_right, Contains-append_cases, Contains-push, Contains-push_cases}
+use Rattle.std.proofs.lemmas.List.Elements.{Contains-append_cases}
 use Rattle.std.proofs.lemmas.List.Kept.{AllPairs-cons}
-
-pub none_contained : {A : Type 0} (x : A) → Contains [] x → ⊥
-none_contained x c = let k : c.0 < 0 = c.1 in absurd (omega arith)
-
-pub contains_first : {A : Type 0} (x : A) (xs : List A) → Contains (x ∷ xs) x
-contains_first x xs = Contains-append_left (x ∷ []) xs x (Contains-push [] x)
-
-pub contains_later : {A : Type 0} (x y : A) (xs : List A) → Contains xs y → Contains (x ∷ xs) y
-contains_later x y xs c = Contains-append_right (x ∷ []) xs y c
-
-pub contains_cases : {A : Type 0} (x y : A) (xs : List A) → Contains (x ∷ xs) y → (x ≡ y) ⊎ Contains xs y
-contains_cases x y xs c = elim (Contains-append_cases (x ∷ []) xs y c) [
-  | inl p ↦ elim (Contains-push_cases [] x y p) [ inl n ↦ absurd (none_contained y n) | inr e ↦ inl e ]
-  | inr p ↦ inr p
-]
-
--- an element of xs that f takes to y
-pub record From {A B : Type 0} (f : A → B) (xs : List A) (y : B) : Type 0 where
-  pub origin : A
-  pub held : Contains xs origin
-  pub gives : f origin ≡ y
-
-pub contains-map : {A B : Type 0} (f : A → B) (xs : List A) (x : A) → Contains xs x → Contains (map f xs) (f x)
-contains-map f [] x c = absurd (none_contained x c)
-contains-map f (z ∷ xs) x c = elim (contains_cases z x xs c) [
-  | inl e ↦ subst (λ a. Contains (f z ∷ map f xs) (f a)) e (contains_first (f z) (map f xs))
-  | inr p ↦ contains_later (f z) (f x) (map f xs) (contains-map f xs x p)
-]
-
-pub from-map : {A B : Type 0} (f : A → B) (xs : List A) (y : B) → Contains (map f xs) y → From f xs y
-from-map f [] y c = absurd (none_contained y c)
-from-map f (z ∷ xs) y c = elim (contains_cases (f z) y (map f xs) c) [
-  | inl e ↦ record { origin = z; held = contains_first z xs; gives = e }
-  | inr p ↦ let r : From f xs y = from-map f xs y p in record { origin = r.origin; held = contains_later z r.origin xs r.held; gives = r.gives }
-]
-
--- an element of xs for which f holds y
-pub record Within {A B : Type 0} (f : A → List B) (xs : List A) (y : B) : Type 0 where
-  pub origin : A
-  pub held : Contains xs origin
-  pub gives : Contains (f origin) y
-
-pub contains-flat_map : {A B : Type 0} (f : A → List B) (xs : List A) (x : A) (y : B) → Contains xs x → Contains (f x) y → Contains (flat_map f xs) y
-contains-flat_map f [] x y c p = absurd (none_contained x c)
-contains-flat_map f (z ∷ xs) x y c p = elim (contains_cases z x xs c) [
-  | inl e ↦ Contains-append_left (f z) (flat_map f xs) y (subst (λ a. Contains (f a) y) (sym e) p)
-  | inr q ↦ Contains-append_right (f z) (flat_map f xs) y (contains-flat_map f xs x y q p)
-]
-
-pub within-flat_map : {A B : Type 0} (f : A → List B) (xs : List A) (y : B) → Contains (flat_map f xs) y → Within f xs y
-within-flat_map f [] y c = absurd (none_contained y c)
-within-flat_map f (z ∷ xs) y c = elim (Contains-append_cases (f z) (flat_map f xs) y c) [
-  | inl p ↦ record { origin = z; held = contains_first z xs; gives = p }
-  | inr p ↦ let r : Within f xs y = within-flat_map f xs y p in record { origin = r.origin; held = contains_later z r.origin xs r.held; gives = r.gives }
-]
-
-pub contains-filter : {A : Type 0} (p : A → Bool) (xs : List A) (x : A) → Contains xs x → p x ≡ true → Contains (filter p xs) x
-contains-filter p [] x c h = absurd (none_contained x c)
-contains-filter {A} p (z ∷ xs) x c h = elim (contains_cases z x xs c) [
-  | inl e ↦ subst (λ b. Contains (cond b (z ∷ filter p xs) (filter p xs)) x) (sym (ap p e ∙ h)) (subst (Contains (z ∷ filter p xs)) e (contains_first z (filter p xs)))
-  | inr q ↦ later (p z) (contains-filter p xs x q h)
-]
-  where
-    later : (b : Bool) → Contains (filter p xs) x → Contains (cond b (z ∷ filter p xs) (filter p xs)) x
-    later true r = contains_later z x (filter p xs) r
-    later false r = r
-
-pub from-filter : {A : Type 0} (p : A → Bool) (xs : List A) (x : A) → Contains (filter p xs) x → Contains xs x × (p x ≡ true)
-from-filter p [] x c = absurd (none_contained x c)
-from-filter {A} p (z ∷ xs) x c = go (from-filter p xs x) (p z) refl c
-  where
-    later : Contains xs x × (p x ≡ true) → Contains (z ∷ xs) x × (p x ≡ true)
-    later r = (contains_later z x xs r.0, r.1)
-
-    go : (Contains (filter p xs) x → Contains xs x × (p x ≡ true)) → (b : Bool) → p z ≡ b → Contains (cond b (z ∷ filter p xs) (filter p xs)) x → Contains (z ∷ xs) x × (p x ≡ true)
-    go more true e c = elim (contains_cases z x (filter p xs) c) [
-      | inl s ↦ (subst (Contains (z ∷ xs)) s (contains_first z xs), ap p (sym s) ∙ e)
-      | inr q ↦ later (more q)
-    ]
-    go more false e c = later (more c)
+pub use Rattle.zeta_model.proofs.ListLemmas.{From, Within, none_contained, contains_first, contains_later, contains_cases, contains-map, from-map, contains-flat_map, within-flat_map, contains-filter, from-filter}
 
 pub contains-range : (a n k : ℕ) → a ≤ k → k < a + n → Contains (range_with_len a n) k
 contains-range a zero k h g = absurd (omega arith)
@@ -119,7 +40,8 @@ Distinct-append {A} (x ∷ xs) ys d e f = (here, Distinct-append xs ys d.1 e (λ
 
 pub Distinct-map : {A B : Type 0} (f : A → B) → ((x y : A) → f x ≡ f y → x ≡ y) → (xs : List A) → Distinct xs → Distinct (map f xs)
 Distinct-map f one [] d = tt
-Distinct-map f one (x ∷ xs) d = (λ c. let r : From f xs (f x) = from-map f xs (f x) c in d.0 (subst (Contains xs) (one r.origin x r.gives) r.held), Distinct-map f one xs d.1)
+Distinct-map f one (x ∷ xs) d =
+    (λ c. let r : From f xs (f x) = from-map f xs (f x) c in d.0 (subst (Contains xs) (one r.origin x r.gives) r.held), Distinct-map f one xs d.1)
 
 pub Distinct-filter : {A : Type 0} (p : A → Bool) (xs : List A) → Distinct xs → Distinct (filter p xs)
 Distinct-filter p [] d = tt
@@ -129,7 +51,8 @@ Distinct-filter {A} p (x ∷ xs) d = go (p x) (Distinct-filter p xs d.1)
     go true r = (λ c. d.0 (from-filter p xs x c).0, r)
     go false r = r
 
-pub Distinct-flat_map : {A B : Type 0} (f : A → List B) → ((x : A) → Distinct (f x)) → ((x y : A) (z : B) → Contains (f x) z → Contains (f y) z → x ≡ y) → (xs : List A) → Distinct xs → Distinct (flat_map f xs)
+pub Distinct-flat_map : {A B : Type 0} (f : A → List B) → ((x : A) → Distinct (f x)) → ((x y : A) (z : B) → Contains (f x) z → Contains (f y) z → x ≡ y)
+    → (xs : List A) → Distinct xs → Distinct (flat_map f xs)
 Distinct-flat_map f each apart [] d = tt
 Distinct-flat_map {A} {B} f each apart (x ∷ xs) d = Distinct-append (f x) (flat_map f xs) (each x) (Distinct-flat_map f each apart xs d.1) again
   where

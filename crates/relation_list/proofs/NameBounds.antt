@@ -44,17 +44,27 @@ weight_of_name-le n h = within (weight_of_name n) (both_second (is_formed n) (na
 pub depth_of_name-most : (n : RelName) → is_name_of n ≡ true → depth_of_name n ≤ 24
 depth_of_name-most n h = omega (arith, depth_of_name-le n, weight_of_name-le n h)
 
-pub fin-admissible : (r : Direct) (u v : List Letter) → is_direct r ≡ true → r ≡ Fin u v → (is_admissible u ≡ true) × (is_admissible v ≡ true) × (in_order u v ≡ true)
+pub fin-admissible : (r : Direct) (u v : List Letter) → is_direct r ≡ true → r ≡ Fin u v
+    → (is_admissible u ≡ true) × (is_admissible v ≡ true) × (in_order u v ≡ true)
 fin-admissible r u v h e =
     let f : is_direct (Fin u v) ≡ true = ap is_direct (sym e) ∙ h in
-    let g : (is_admissible v && in_order u v) ≡ true = both_second (is_admissible u) (is_admissible v && in_order u v) f in
-    (both_first (is_admissible u) (is_admissible v && in_order u v) f, both_first (is_admissible v) (in_order u v) g, both_second (is_admissible v) (in_order u v) g)
+    let g : (is_admissible v && in_order u v) ≡ true = both_second (is_admissible u) (is_admissible v && in_order u v) f in (
+      both_first (is_admissible u) (is_admissible v && in_order u v) f,
+      both_first (is_admissible v) (in_order u v) g,
+      both_second (is_admissible v)
+          (in_order u v) g,
+    )
 
-pub prod-parts : (n : RelName) (r : Direct) (u : List Letter) → is_name_of n ≡ true → n ≡ Prod r u → (is_direct r ≡ true) × (3 ≤ direct_weight_of r) × (is_admissible u ≡ true)
+pub prod-parts : (n : RelName) (r : Direct) (u : List Letter) → is_name_of n ≡ true → n ≡ Prod r u
+    → (is_direct r ≡ true) × (3 ≤ direct_weight_of r) × (is_admissible u ≡ true)
 prod-parts n r u h e =
     let f : is_formed (Prod r u) ≡ true = both_first (is_formed (Prod r u)) (nat_le (weight_of_name (Prod r u)) 24) (ap is_name_of (sym e) ∙ h) in
-    let g : (nat_le 3 (direct_weight_of r) && is_admissible u) ≡ true = both_second (is_direct r) (nat_le 3 (direct_weight_of r) && is_admissible u) f in
-    (both_first (is_direct r) (nat_le 3 (direct_weight_of r) && is_admissible u) f, high (direct_weight_of r) (both_first (nat_le 3 (direct_weight_of r)) (is_admissible u) g), both_second (nat_le 3 (direct_weight_of r)) (is_admissible u) g)
+    let g : (nat_le 3 (direct_weight_of r) && is_admissible u) ≡ true = both_second (is_direct r) (nat_le 3 (direct_weight_of r) && is_admissible u) f in (
+      both_first (is_direct r) (nat_le 3 (direct_weight_of r) && is_admissible u) f,
+      high (direct_weight_of r)
+          (both_first (nat_le 3 (direct_weight_of r)) (is_admissible u) g),
+      both_second (nat_le 3 (direct_weight_of r)) (is_admissible u) g,
+    )
   where
     high : (k : ℕ) → nat_le 3 k ≡ true → 3 ≤ k
     high k h = grind (arith, nat_tests)

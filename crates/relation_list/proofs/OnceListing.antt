@@ -9,11 +9,11 @@ use Rattle.relation_list.specs.declared.names.Direct.{Direct}
 use Rattle.relation_list.specs.declared.names.Direct.TheVariants.{Fin, Reg, Dual}
 use Rattle.relation_list.specs.declared.names.RelName.{RelName}
 use Rattle.relation_list.specs.declared.names.RelName.TheVariants.{Plain, Prod}
-use Rattle.relation_list.specs.WordLists.{all_words, admissible_words}
+use Rattle.zeta_model.specs.WordLists.{all_words, admissible_words}
 use Rattle.relation_list.specs.Names.{in_order, below_dual, direct_weight_of, depth_of_name}
-use Rattle.relation_list.specs.Listings.{fins, regs, duals, directs, prods, names, listing_of}
+use Rattle.relation_list.specs.Listings.{fins_by, fins_from, fins, regs_from, regs, duals, directs, prods_by, prods_from, prods, names, listing_of}
 use Rattle.relation_list.proofs.Members.{From, Within, none_contained, from-map, within-flat_map, Distinct, Distinct-append, Distinct-map, Distinct-filter, Distinct-flat_map, Distinct-range, pairs_from_Distinct}
-use Rattle.relation_list.proofs.WholeListing.{fins_by, fins_from, IsFinOf, IsFinAt, fin_of, fin_at, regs_from, IsRegAt, reg_at, prods_by, prods_from, IsProdOf, IsProdAt, prod_of, prod_at}
+use Rattle.relation_list.proofs.WholeListing.{IsFinOf, IsFinAt, fin_of, fin_at, IsRegAt, reg_at, IsProdOf, IsProdAt, prod_of, prod_at}
 
 abbrev Word : Type 0
 Word = List Letter
@@ -21,7 +21,9 @@ Word = List Letter
 Distinct-all_words : (k : ℕ) → Distinct (all_words k)
 unfolding all_words
 Distinct-all_words zero = (none_contained [], tt)
-Distinct-all_words (suc k) = Distinct-append (map (λ w. X ∷ w) (all_words k)) (map (λ w. Y ∷ w) (all_words k)) (Distinct-map (λ w. X ∷ w) (λ u v e. cc) (all_words k) (Distinct-all_words k)) (Distinct-map (λ w. Y ∷ w) (λ u v e. cc) (all_words k) (Distinct-all_words k)) apart
+Distinct-all_words (suc k) = Distinct-append (map (λ w. X ∷ w) (all_words k)) (map (λ w. Y ∷ w) (all_words k))
+    (Distinct-map (λ w. X ∷ w) (λ u v e. cc) (all_words k) (Distinct-all_words k))
+    (Distinct-map (λ w. Y ∷ w) (λ u v e. cc) (all_words k) (Distinct-all_words k)) apart
   where
     apart : (z : Word) → Contains (map (λ w. X ∷ w) (all_words k)) z → Contains (map (λ w. Y ∷ w) (all_words k)) z → ⊥
     apart z c p =
@@ -47,7 +49,10 @@ Distinct-fins w = Distinct-flat_map (fins_from w) each apart (range_with_len 1 (
         cc
 
     each : (k : ℕ) → Distinct (fins_from w k)
-    each k = Distinct-flat_map (fins_by (w - k)) (λ u. Distinct-map (λ v. Fin u v) (λ s t e. cc) (filter (in_order u) (admissible_words (w - k))) (Distinct-filter (in_order u) (admissible_words (w - k)) (Distinct-admissible_words (w - k)))) (by_word k) (admissible_words k) (Distinct-admissible_words k)
+    each k = Distinct-flat_map (fins_by (w - k))
+        (λ u. Distinct-map (λ v. Fin u v) (λ s t e. cc) (filter (in_order u) (admissible_words (w - k)))
+        (Distinct-filter (in_order u) (admissible_words (w - k)) (Distinct-admissible_words (w - k)))) (by_word k) (admissible_words k)
+        (Distinct-admissible_words k)
 
     apart : (k l : ℕ) (r : Direct) → Contains (fins_from w k) r → Contains (fins_from w l) r → k ≡ l
     apart k l r c p =
@@ -59,7 +64,9 @@ Distinct-fins w = Distinct-flat_map (fins_from w) each apart (range_with_len 1 (
 
 Distinct-regs : (w : ℕ) → Distinct (regs w)
 unfolding regs
-Distinct-regs w = Distinct-flat_map (regs_from w) (λ m. Distinct-map (λ v. Reg m v) (λ s t e. cc) (admissible_words (w - m)) (Distinct-admissible_words (w - m))) apart (range_with_len 1 (w - 1)) (Distinct-range 1 (w - 1))
+Distinct-regs w = Distinct-flat_map (regs_from w)
+    (λ m. Distinct-map (λ v. Reg m v) (λ s t e. cc) (admissible_words (w - m)) (Distinct-admissible_words (w - m))) apart (range_with_len 1 (w - 1))
+    (Distinct-range 1 (w - 1))
   where
     apart : (k l : ℕ) (r : Direct) → Contains (regs_from w k) r → Contains (regs_from w l) r → k ≡ l
     apart k l r c p =
@@ -70,7 +77,8 @@ Distinct-regs w = Distinct-flat_map (regs_from w) (λ m. Distinct-map (λ v. Reg
 
 Distinct-duals : (w : ℕ) → Distinct (duals w)
 unfolding duals
-Distinct-duals w = Distinct-map (λ u. Dual u) (λ s t e. cc) (filter below_dual (admissible_words w)) (Distinct-filter below_dual (admissible_words w) (Distinct-admissible_words w))
+Distinct-duals w = Distinct-map (λ u. Dual u) (λ s t e. cc) (filter below_dual (admissible_words w))
+    (Distinct-filter below_dual (admissible_words w) (Distinct-admissible_words w))
 
 -- which of the three kinds a direct name is
 abbrev kind_of : Direct → ℕ
@@ -95,10 +103,12 @@ unfolding duals
 kind-duals w r c = ap kind_of (sym (from-map (λ u. Dual u) (filter below_dual (admissible_words w)) r c).gives)
 
 Distinct-directs : (w : ℕ) → Distinct (directs w)
-Distinct-directs w = Distinct-append (fins w) (regs w ++ duals w) (Distinct-fins w) (Distinct-append (regs w) (duals w) (Distinct-regs w) (Distinct-duals w) (λ r c p. absurd (omega (arith, kind-regs w r c, kind-duals w r p)))) apart
+Distinct-directs w = Distinct-append (fins w) (regs w ++ duals w) (Distinct-fins w)
+    (Distinct-append (regs w) (duals w) (Distinct-regs w) (Distinct-duals w) (λ r c p. absurd (omega (arith, kind-regs w r c, kind-duals w r p)))) apart
   where
     apart : (r : Direct) → Contains (fins w) r → Contains (regs w ++ duals w) r → ⊥
-    apart r c p = elim (Contains-append_cases (regs w) (duals w) r p) [ inl q ↦ absurd (omega (arith, kind-fins w r c, kind-regs w r q)) | inr q ↦ absurd (omega (arith, kind-fins w r c, kind-duals w r q)) ]
+    apart r c p = elim (Contains-append_cases (regs w) (duals w) r p)
+        [ inl q ↦ absurd (omega (arith, kind-fins w r c, kind-regs w r q)) | inr q ↦ absurd (omega (arith, kind-fins w r c, kind-duals w r q)) ]
 
 Distinct-prods : (w : ℕ) → Distinct (prods w)
 unfolding prods
@@ -112,7 +122,9 @@ Distinct-prods w = Distinct-flat_map (prods_from w) each apart (range_with_len 3
         cc
 
     each : (k : ℕ) → Distinct (prods_from w k)
-    each k = Distinct-flat_map (prods_by (w - k)) (λ r. Distinct-map (λ u. Prod r u) (λ s t e. cc) (admissible_words (w - k)) (Distinct-admissible_words (w - k))) (by_factor k) (directs k) (Distinct-directs k)
+    each k = Distinct-flat_map (prods_by (w - k))
+        (λ r. Distinct-map (λ u. Prod r u) (λ s t e. cc) (admissible_words (w - k)) (Distinct-admissible_words (w - k))) (by_factor k) (directs k)
+        (Distinct-directs k)
 
     apart : (k l : ℕ) (n : RelName) → Contains (prods_from w k) n → Contains (prods_from w l) n → k ≡ l
     apart k l n c p =
@@ -124,7 +136,8 @@ Distinct-prods w = Distinct-flat_map (prods_from w) each apart (range_with_len 3
 
 Distinct-names : (w : ℕ) → Distinct (names w)
 unfolding prods
-Distinct-names w = Distinct-append (map (λ r. Plain r) (directs w)) (prods w) (Distinct-map (λ r. Plain r) (λ s t e. cc) (directs w) (Distinct-directs w)) (Distinct-prods w) apart
+Distinct-names w = Distinct-append (map (λ r. Plain r) (directs w)) (prods w) (Distinct-map (λ r. Plain r) (λ s t e. cc) (directs w) (Distinct-directs w))
+    (Distinct-prods w) apart
   where
     apart : (n : RelName) → Contains (map (λ r. Plain r) (directs w)) n → Contains (prods w) n → ⊥
     apart n c p =

@@ -14,7 +14,7 @@ use Rattle.zeta_model.proofs.StuffleLetters.{stuffle_laws}
 use Rattle.zeta_model.proofs.WordOrder.{same_word-one, same_word-itself}
 use Rattle.relation_list.proofs.Members.{From, none_contained, contains_first, contains_later, contains_cases, from-map}
 use Rattle.relation_list.proofs.ValueLemmas.{admissible-has_index}
-use Rattle.relation_list.proofs.WordListLemmas.{depth_of-x, depth_of-y, depth_of-some}
+use Rattle.zeta_model.proofs.DepthLemmas.{depth_of-x, depth_of-y, depth_of-some}
 
 abbrev Word : Type 0
 Word = List Letter
@@ -60,14 +60,16 @@ the_one u t c = elim (contains_cases u t [] c) [ inl e ↦ e | inr n ↦ absurd 
 
 -- the words of a product are no deeper than the two words together, where joining two letters makes nothing deeper
 module _ (L : Alphabet) (laws : (limit : ℕ) → AlphabetLaws limit L)
-    (joining : (u v c : Word) → L.covered u ≡ true → L.covered v ≡ true → 0 < length u → 0 < length v → L.joined (L.first u) (L.first v) ≡ Some c → depth_of c ≤ depth_of (L.first u) + depth_of (L.first v)) where
+    (joining : (u v c : Word) → L.covered u ≡ true → L.covered v ≡ true → 0 < length u → 0 < length v → L.joined (L.first u) (L.first v) ≡ Some c
+    → depth_of c ≤ depth_of (L.first u) + depth_of (L.first v)) where
   cut : (w : Word) → L.covered w ≡ true → 0 < length w → depth_of w ≡ depth_of (L.first w) + depth_of (rest L w)
   cut w c p = ap depth_of ((laws (length w)).first_begins w c p (omega arith)) ∙ depth_of-append (L.first w) (rest L w)
 
   covers_rest : (w : Word) → L.covered w ≡ true → 0 < length w → L.covered (rest L w) ≡ true
   covers_rest w c p = (laws (length w)).covers_rest w c p (omega arith)
 
-  behind_depth : (o : Option Word) (ws : List Word) (t : Word) (k n : ℕ) → ((c : Word) → o ≡ Some c → depth_of c ≤ k) → ((w : Word) → Contains ws w → depth_of w ≤ n) → Contains (behind o ws) t → depth_of t ≤ k + n
+  behind_depth : (o : Option Word) (ws : List Word) (t : Word) (k n : ℕ) → ((c : Word) → o ≡ Some c → depth_of c ≤ k)
+      → ((w : Word) → Contains ws w → depth_of w ≤ n) → Contains (behind o ws) t → depth_of t ≤ k + n
   behind_depth None ws t k n f g c = absurd (none_contained t c)
   behind_depth (Some a) ws t k n f g c =
       let r : From (λ w. a ++ w) ws t = from-map (λ w. a ++ w) ws t c in
@@ -81,12 +83,15 @@ module _ (L : Alphabet) (laws : (limit : ℕ) → AlphabetLaws limit L)
   depth-prod_within (suc n) (x ∷ u) (y ∷ v) t cu cv c =
       let ru : L.covered (rest L (x ∷ u)) ≡ true = covers_rest (x ∷ u) cu (omega arith) in
       let rv : L.covered (rest L (y ∷ v)) ≡ true = covers_rest (y ∷ v) cv (omega arith) in
-      three c (λ w. depth-prod_within n (rest L (x ∷ u)) (y ∷ v) w ru cv) (λ w. depth-prod_within n (x ∷ u) (rest L (y ∷ v)) w cu rv) (λ w. depth-prod_within n (rest L (x ∷ u)) (rest L (y ∷ v)) w ru rv)
+      three c (λ w. depth-prod_within n (rest L (x ∷ u)) (y ∷ v) w ru cv) (λ w. depth-prod_within n (x ∷ u) (rest L (y ∷ v)) w cu rv)
+      (λ w. depth-prod_within n (rest L (x ∷ u)) (rest L (y ∷ v)) w ru rv)
     where
       one : (a c : Word) → ◌≡◌ {A = Option Word} (Some a) (Some c) → depth_of c ≤ depth_of a
       one a c e = let same : a ≡ c = cc in omega (arith, ap depth_of same)
 
-      three : Contains (behind (Some (L.first (x ∷ u))) (prod_within L n (rest L (x ∷ u)) (y ∷ v)) ++ behind (Some (L.first (y ∷ v))) (prod_within L n (x ∷ u) (rest L (y ∷ v))) ++ behind (L.joined (L.first (x ∷ u)) (L.first (y ∷ v))) (prod_within L n (rest L (x ∷ u)) (rest L (y ∷ v)))) t
+      three : Contains (behind (Some (L.first (x ∷ u))) (prod_within L n (rest L (x ∷ u)) (y ∷ v)) ++ behind (Some (L.first (y ∷ v)))
+          (prod_within L n (x ∷ u) (rest L (y ∷ v))) ++ behind (L.joined (L.first (x ∷ u)) (L.first (y ∷ v)))
+          (prod_within L n (rest L (x ∷ u)) (rest L (y ∷ v)))) t
           → ((w : Word) → Contains (prod_within L n (rest L (x ∷ u)) (y ∷ v)) w → depth_of w ≤ depth_of (rest L (x ∷ u)) + depth_of (y ∷ v))
           → ((w : Word) → Contains (prod_within L n (x ∷ u) (rest L (y ∷ v))) w → depth_of w ≤ depth_of (x ∷ u) + depth_of (rest L (y ∷ v)))
           → ((w : Word) → Contains (prod_within L n (rest L (x ∷ u)) (rest L (y ∷ v))) w → depth_of w ≤ depth_of (rest L (x ∷ u)) + depth_of (rest L (y ∷ v)))
@@ -94,12 +99,32 @@ module _ (L : Alphabet) (laws : (limit : ℕ) → AlphabetLaws limit L)
       three c ia ib ij =
           let eu : depth_of (x ∷ u) ≡ depth_of (L.first (x ∷ u)) + depth_of (rest L (x ∷ u)) = cut (x ∷ u) cu (omega arith) in
           let ev : depth_of (y ∷ v) ≡ depth_of (L.first (y ∷ v)) + depth_of (rest L (y ∷ v)) = cut (y ∷ v) cv (omega arith) in
-          elim (Contains-append_cases (behind (Some (L.first (x ∷ u))) (prod_within L n (rest L (x ∷ u)) (y ∷ v)) ++ behind (Some (L.first (y ∷ v))) (prod_within L n (x ∷ u) (rest L (y ∷ v)))) (behind (L.joined (L.first (x ∷ u)) (L.first (y ∷ v))) (prod_within L n (rest L (x ∷ u)) (rest L (y ∷ v)))) t c) [
-            | inl p ↦ elim (Contains-append_cases (behind (Some (L.first (x ∷ u))) (prod_within L n (rest L (x ∷ u)) (y ∷ v))) (behind (Some (L.first (y ∷ v))) (prod_within L n (x ∷ u) (rest L (y ∷ v)))) t p) [
-              | inl q ↦ omega (arith, eu, behind_depth (Some (L.first (x ∷ u))) (prod_within L n (rest L (x ∷ u)) (y ∷ v)) t (depth_of (L.first (x ∷ u))) (depth_of (rest L (x ∷ u)) + depth_of (y ∷ v)) (one (L.first (x ∷ u))) ia q)
-              | inr q ↦ omega (arith, ev, behind_depth (Some (L.first (y ∷ v))) (prod_within L n (x ∷ u) (rest L (y ∷ v))) t (depth_of (L.first (y ∷ v))) (depth_of (x ∷ u) + depth_of (rest L (y ∷ v))) (one (L.first (y ∷ v))) ib q)
-            ]
-            | inr p ↦ omega (arith, eu, ev, behind_depth (L.joined (L.first (x ∷ u)) (L.first (y ∷ v))) (prod_within L n (rest L (x ∷ u)) (rest L (y ∷ v))) t (depth_of (L.first (x ∷ u)) + depth_of (L.first (y ∷ v))) (depth_of (rest L (x ∷ u)) + depth_of (rest L (y ∷ v))) (λ d e. joining (x ∷ u) (y ∷ v) d cu cv (omega arith) (omega arith) e) ij p)
+          elim (Contains-append_cases (behind (Some (L.first (x ∷ u))) (prod_within L n (rest L (x ∷ u)) (y ∷ v)) ++ behind (Some (L.first (y ∷ v)))
+          (prod_within L n (x ∷ u) (rest L (y ∷ v))))
+          (behind (L.joined (L.first (x ∷ u)) (L.first (y ∷ v))) (prod_within L n (rest L (x ∷ u)) (rest L (y ∷ v)))) t c) [
+            | inl p ↦ elim (Contains-append_cases (behind (Some (L.first (x ∷ u))) (prod_within L n (rest L (x ∷ u)) (y ∷ v)))
+                (behind (Some (L.first (y ∷ v))) (prod_within L n (x ∷ u) (rest L (y ∷ v)))) t p) [
+                  | inl q ↦ omega (
+                    arith,
+                    eu,
+                    behind_depth (Some (L.first (x ∷ u))) (prod_within L n (rest L (x ∷ u)) (y ∷ v)) t (depth_of (L.first (x ∷ u)))
+                        (depth_of (rest L (x ∷ u)) + depth_of (y ∷ v)) (one (L.first (x ∷ u))) ia q,
+                  )
+                  | inr q ↦ omega (
+                    arith,
+                    ev,
+                    behind_depth (Some (L.first (y ∷ v))) (prod_within L n (x ∷ u) (rest L (y ∷ v))) t (depth_of (L.first (y ∷ v)))
+                        (depth_of (x ∷ u) + depth_of (rest L (y ∷ v))) (one (L.first (y ∷ v))) ib q,
+                  )
+                ]
+            | inr p ↦ omega (
+              arith,
+              eu,
+              ev,
+              behind_depth (L.joined (L.first (x ∷ u)) (L.first (y ∷ v))) (prod_within L n (rest L (x ∷ u)) (rest L (y ∷ v))) t
+                  (depth_of (L.first (x ∷ u)) + depth_of (L.first (y ∷ v))) (depth_of (rest L (x ∷ u)) + depth_of (rest L (y ∷ v)))
+                  (λ d e. joining (x ∷ u) (y ∷ v) d cu cv (omega arith) (omega arith) e) ij p,
+            )
           ]
 
   depth-prod : (u v t : Word) → L.covered u ≡ true → L.covered v ≡ true → 0 < sum_of (prod L u v) t → depth_of t ≤ depth_of u + depth_of v
@@ -113,7 +138,8 @@ depth-z_word zero = omega arith
 depth-z_word (suc zero) = omega (arith, depth_of-y [])
 depth-z_word (suc (suc k)) = omega (arith, depth_of-x (z_word (suc k)), depth-z_word (suc k))
 
-joining_z : (u v c : Word) → has_index u ≡ true → has_index v ≡ true → 0 < length u → 0 < length v → stuffle_alphabet.joined (first_z u) (first_z v) ≡ Some c → depth_of c ≤ depth_of (first_z u) + depth_of (first_z v)
+joining_z : (u v c : Word) → has_index u ≡ true → has_index v ≡ true → 0 < length u → 0 < length v → stuffle_alphabet.joined (first_z u) (first_z v) ≡ Some c
+    → depth_of c ≤ depth_of (first_z u) + depth_of (first_z v)
 joining_z u v c cu cv pu pv e =
     let same : z_word (length (first_z u) + length (first_z v)) ≡ c = cc in
     let l = (stuffle_laws (length u)).first_is_letter u cu pu (omega arith) in
@@ -128,19 +154,24 @@ pub depth-stuffle : (u v t : Word) → has_index u ≡ true → has_index v ≡ 
 depth-stuffle u v t cu cv h = depth-prod stuffle_alphabet stuffle_laws joining_z u v t cu cv h
 
 -- words that begin with x have products that begin with x
-module _ (L : Alphabet) (from_x : (u t : Word) → begins_with_x (L.first (X ∷ u) ++ t) ≡ true) (joins_x : (u v c t : Word) → L.joined (L.first (X ∷ u)) (L.first (X ∷ v)) ≡ Some c → begins_with_x (c ++ t) ≡ true) where
-  behind_x : (o : Option Word) (ws : List Word) (t : Word) → ((c w : Word) → o ≡ Some c → begins_with_x (c ++ w) ≡ true) → Contains (behind o ws) t → begins_with_x t ≡ true
+module _ (L : Alphabet) (from_x : (u t : Word) → begins_with_x (L.first (X ∷ u) ++ t) ≡ true)
+    (joins_x : (u v c t : Word) → L.joined (L.first (X ∷ u)) (L.first (X ∷ v)) ≡ Some c → begins_with_x (c ++ t) ≡ true) where
+  behind_x : (o : Option Word) (ws : List Word) (t : Word) → ((c w : Word) → o ≡ Some c → begins_with_x (c ++ w) ≡ true) → Contains (behind o ws) t
+      → begins_with_x t ≡ true
   behind_x None ws t f c = absurd (none_contained t c)
   behind_x (Some a) ws t f c = let r : From (λ w. a ++ w) ws t = from-map (λ w. a ++ w) ws t c in ap begins_with_x (sym r.gives) ∙ f a r.origin refl
 
   prod_within-x : (n : ℕ) (u v t : Word) → Contains (prod_within L n (X ∷ u) (X ∷ v)) t → begins_with_x t ≡ true
   prod_within-x zero u v t c = absurd (none_contained t c)
   prod_within-x (suc n) u v t c =
-      elim (Contains-append_cases (behind (Some (L.first (X ∷ u))) (prod_within L n (rest L (X ∷ u)) (X ∷ v)) ++ behind (Some (L.first (X ∷ v))) (prod_within L n (X ∷ u) (rest L (X ∷ v)))) (behind (L.joined (L.first (X ∷ u)) (L.first (X ∷ v))) (prod_within L n (rest L (X ∷ u)) (rest L (X ∷ v)))) t c) [
-        | inl p ↦ elim (Contains-append_cases (behind (Some (L.first (X ∷ u))) (prod_within L n (rest L (X ∷ u)) (X ∷ v))) (behind (Some (L.first (X ∷ v))) (prod_within L n (X ∷ u) (rest L (X ∷ v)))) t p) [
-          | inl q ↦ behind_x (Some (L.first (X ∷ u))) (prod_within L n (rest L (X ∷ u)) (X ∷ v)) t (some u) q
-          | inr q ↦ behind_x (Some (L.first (X ∷ v))) (prod_within L n (X ∷ u) (rest L (X ∷ v))) t (some v) q
-        ]
+      elim (Contains-append_cases (behind (Some (L.first (X ∷ u))) (prod_within L n (rest L (X ∷ u)) (X ∷ v)) ++ behind (Some (L.first (X ∷ v)))
+      (prod_within L n (X ∷ u) (rest L (X ∷ v))))
+      (behind (L.joined (L.first (X ∷ u)) (L.first (X ∷ v))) (prod_within L n (rest L (X ∷ u)) (rest L (X ∷ v)))) t c) [
+        | inl p ↦ elim (Contains-append_cases (behind (Some (L.first (X ∷ u))) (prod_within L n (rest L (X ∷ u)) (X ∷ v)))
+            (behind (Some (L.first (X ∷ v))) (prod_within L n (X ∷ u) (rest L (X ∷ v)))) t p) [
+              | inl q ↦ behind_x (Some (L.first (X ∷ u))) (prod_within L n (rest L (X ∷ u)) (X ∷ v)) t (some u) q
+              | inr q ↦ behind_x (Some (L.first (X ∷ v))) (prod_within L n (X ∷ u) (rest L (X ∷ v))) t (some v) q
+            ]
         | inr p ↦ behind_x (L.joined (L.first (X ∷ u)) (L.first (X ∷ v))) (prod_within L n (rest L (X ∷ u)) (rest L (X ∷ v))) t (λ d w e. joins_x u v d w e) p
       ]
     where
@@ -183,23 +214,34 @@ one_less : (a : Letter) (w : Word) → has_index (a ∷ w) ≡ true → has_inde
 one_less a [] c = refl
 one_less a (b ∷ w) c = c
 
-shuffle_within-ends : (n : ℕ) (u v t : Word) → has_index u ≡ true → has_index v ≡ true → Contains (prod_within shuffle_alphabet n u v) t → Ends (length u + length v) t
+shuffle_within-ends : (n : ℕ) (u v t : Word) → has_index u ≡ true → has_index v ≡ true → Contains (prod_within shuffle_alphabet n u v) t
+    → Ends (length u + length v) t
 shuffle_within-ends n [] v t cu cv c = let e : v ≡ t = the_one v t c in record { index = ap has_index (sym e) ∙ cv; long = omega (arith, ap length e) }
-shuffle_within-ends n (x ∷ u) [] t cu cv c = let e : x ∷ u ≡ t = the_one (x ∷ u) t c in record { index = ap has_index (sym e) ∙ cu; long = omega (arith, ap length e) }
+shuffle_within-ends n (x ∷ u) [] t cu cv c = let e : x ∷ u ≡ t = the_one (x ∷ u) t c in
+    record { index = ap has_index (sym e) ∙ cu; long = omega (arith, ap length e) }
 shuffle_within-ends zero (x ∷ u) (y ∷ v) t cu cv c = absurd (none_contained t c)
-shuffle_within-ends (suc n) (x ∷ u) (y ∷ v) t cu cv c = two c (λ w. shuffle_within-ends n u (y ∷ v) w (one_less x u cu) cv) (λ w. shuffle_within-ends n (x ∷ u) v w cu (one_less y v cv))
+shuffle_within-ends (suc n) (x ∷ u) (y ∷ v) t cu cv c =
+    two c (λ w. shuffle_within-ends n u (y ∷ v) w (one_less x u cu) cv) (λ w. shuffle_within-ends n (x ∷ u) v w cu (one_less y v cv))
   where
     front : (a : Letter) (ws : List Word) (k : ℕ) → 0 < k → ((w : Word) → Contains ws w → Ends k w) → Contains (map (λ w. (a ∷ []) ++ w) ws) t → Ends (suc k) t
-    front a ws k p f c = let r : From (λ w. (a ∷ []) ++ w) ws t = from-map (λ w. (a ∷ []) ++ w) ws t c in subst (Ends (suc k)) r.gives (one_more a k r.origin p (f r.origin r.held))
+    front a ws k p f c = let r : From (λ w. (a ∷ []) ++ w) ws t = from-map (λ w. (a ∷ []) ++ w) ws t c in
+        subst (Ends (suc k)) r.gives (one_more a k r.origin p (f r.origin r.held))
 
-    two : Contains (map (λ w. (x ∷ []) ++ w) (prod_within shuffle_alphabet n u (y ∷ v)) ++ map (λ w. (y ∷ []) ++ w) (prod_within shuffle_alphabet n (x ∷ u) v) ++ []) t → ((w : Word) → Contains (prod_within shuffle_alphabet n u (y ∷ v)) w → Ends (length u + length (y ∷ v)) w) → ((w : Word) → Contains (prod_within shuffle_alphabet n (x ∷ u) v) w → Ends (length (x ∷ u) + length v) w) → Ends (length (x ∷ u) + length (y ∷ v)) t
-    two c fa fb = elim (Contains-append_cases (map (λ w. (x ∷ []) ++ w) (prod_within shuffle_alphabet n u (y ∷ v)) ++ map (λ w. (y ∷ []) ++ w) (prod_within shuffle_alphabet n (x ∷ u) v)) [] t c) [
-      | inl p ↦ elim (Contains-append_cases (map (λ w. (x ∷ []) ++ w) (prod_within shuffle_alphabet n u (y ∷ v))) (map (λ w. (y ∷ []) ++ w) (prod_within shuffle_alphabet n (x ∷ u) v)) t p) [
-        | inl q ↦ let e : suc (length u + length (y ∷ v)) ≡ length (x ∷ u) + length (y ∷ v) = omega arith in subst (λ k. Ends k t) e (front x (prod_within shuffle_alphabet n u (y ∷ v)) (length u + length (y ∷ v)) (omega arith) fa q)
-        | inr q ↦ let e : suc (length (x ∷ u) + length v) ≡ length (x ∷ u) + length (y ∷ v) = omega arith in subst (λ k. Ends k t) e (front y (prod_within shuffle_alphabet n (x ∷ u) v) (length (x ∷ u) + length v) (omega arith) fb q)
-      ]
-      | inr p ↦ absurd (none_contained t p)
-    ]
+    two : Contains (map (λ w. (x ∷ []) ++ w) (prod_within shuffle_alphabet n u (y ∷ v)) ++ map (λ w. (y ∷ []) ++ w)
+        (prod_within shuffle_alphabet n (x ∷ u) v) ++ []) t
+        → ((w : Word) → Contains (prod_within shuffle_alphabet n u (y ∷ v)) w → Ends (length u + length (y ∷ v)) w)
+        → ((w : Word) → Contains (prod_within shuffle_alphabet n (x ∷ u) v) w → Ends (length (x ∷ u) + length v) w) → Ends (length (x ∷ u) + length (y ∷ v)) t
+    two c fa fb = elim (Contains-append_cases
+        (map (λ w. (x ∷ []) ++ w) (prod_within shuffle_alphabet n u (y ∷ v)) ++ map (λ w. (y ∷ []) ++ w) (prod_within shuffle_alphabet n (x ∷ u) v)) [] t c) [
+          | inl p ↦ elim (Contains-append_cases (map (λ w. (x ∷ []) ++ w) (prod_within shuffle_alphabet n u (y ∷ v)))
+              (map (λ w. (y ∷ []) ++ w) (prod_within shuffle_alphabet n (x ∷ u) v)) t p) [
+                | inl q ↦ let e : suc (length u + length (y ∷ v)) ≡ length (x ∷ u) + length (y ∷ v) = omega arith in
+                    subst (λ k. Ends k t) e (front x (prod_within shuffle_alphabet n u (y ∷ v)) (length u + length (y ∷ v)) (omega arith) fa q)
+                | inr q ↦ let e : suc (length (x ∷ u) + length v) ≡ length (x ∷ u) + length (y ∷ v) = omega arith in
+                    subst (λ k. Ends k t) e (front y (prod_within shuffle_alphabet n (x ∷ u) v) (length (x ∷ u) + length v) (omega arith) fb q)
+              ]
+          | inr p ↦ absurd (none_contained t p)
+        ]
 
 admissible_from : (t : Word) → begins_with_x t ≡ true → has_index t ≡ true → is_admissible t ≡ true
 admissible_from [] b c = cc
@@ -216,5 +258,6 @@ shuffle-admissible u v t au av h =
     admissible_from t (shuffle-x u v t (begins u au) (begins v av) h)
     (shuffle_within-ends (length u + length v) u v t (admissible-has_index u au) (admissible-has_index v av) (sum_of-held (shuffle_of u v) t h)).index
 
-pub stuffle-admissible : (u v t : Word) → is_admissible u ≡ true → is_admissible v ≡ true → has_index t ≡ true → 0 < sum_of (stuffle_of u v) t → is_admissible t ≡ true
+pub stuffle-admissible : (u v t : Word) → is_admissible u ≡ true → is_admissible v ≡ true → has_index t ≡ true → 0 < sum_of (stuffle_of u v) t
+    → is_admissible t ≡ true
 stuffle-admissible u v t au av c h = admissible_from t (stuffle-x u v t (begins u au) (begins v av) h) c

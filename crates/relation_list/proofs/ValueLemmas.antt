@@ -20,11 +20,11 @@ use Rattle.zeta_model.proofs.StuffleLetters.{stuffle_laws}
 use Rattle.zeta_model.proofs.Totals.{total-append, total-map, total-flat_map, total-zero}
 use Rattle.zeta_model.proofs.WordOrder.{same_word-itself}
 use Rattle.word_sums.specs.Terms.{coefficient_of}
-use Rattle.quasi_product.specs.SumProducts.{numbered}
+use Rattle.zeta_model.specs.Sums.{numbered}
 use Rattle.regularise_core.proofs.KnownSums.{continued_known}
 use Rattle.relation_list.specs.declared.names.Direct.{Direct}
 use Rattle.relation_list.specs.declared.names.Direct.TheVariants.{Fin, Reg, Dual}
-use Rattle.relation_list.specs.WordLists.{all_words}
+use Rattle.zeta_model.specs.WordLists.{all_words}
 use Rattle.relation_list.specs.Names.{in_order, direct_weight_of, is_direct}
 use Rattle.relation_list.specs.Values.{direct_value_of}
 use Rattle.relation_list.proofs.NameBounds.{fin-admissible, reg-parts}
@@ -67,8 +67,10 @@ total-none f (w ∷ ws) none =
     omega (arith, here, total-none f ws (λ v h. none v (omega arith)))
 
 -- a product has no words of other weights
-product-none : (L : Alphabet) (u v t : Word) → ((limit : ℕ) → AlphabetLaws limit L) → L.covered u ≡ true → L.covered v ≡ true → length t ≢ length u + length v → sum_of (prod L u v) t ≡ 0
-product-none L u v t laws cu cv other = none_over (sum_of (prod L u v) t) (λ h. other (length-prod (length u + length v) L (laws (length u + length v)) u v t cu cv (omega arith) h))
+product-none : (L : Alphabet) (u v t : Word) → ((limit : ℕ) → AlphabetLaws limit L) → L.covered u ≡ true → L.covered v ≡ true → length t ≢ length u + length v
+    → sum_of (prod L u v) t ≡ 0
+product-none L u v t laws cu cv other =
+    none_over (sum_of (prod L u v) t) (λ h. other (length-prod (length u + length v) L (laws (length u + length v)) u v t cu cv (omega arith) h))
 
 difference-none : (m : ℕ) (s r : Sum) (t : Word) → s t ≡ 0 → r t ≡ 0 → difference m s r t ≡ 0
 difference-none m s r t a b = let z : (m - 1) * 0 ≡ 0 = omega arith in ap (λ k. s t + (m - 1) * k) b ∙ omega (arith, a, z)
@@ -92,7 +94,8 @@ direct_value_of-none m (Reg k v) h t other = total-none (λ w. reg_of m w t) (st
         let cv : has_index v ≡ true = admissible-has_index v p.1 in
         let n : ℕ = length (y_word k) + length v in
         let cw : has_index w ≡ true = prod-covered n stuffle_alphabet (stuffle_laws n) (y_word k) v w (has_index-y_word k) cv (omega arith) held in
-        let lw : length w ≡ length (y_word k) + length v = length-prod n stuffle_alphabet (stuffle_laws n) (y_word k) v w (has_index-y_word k) cv (omega arith) held in
+        let lw : length w ≡ length (y_word k) + length v =
+        length-prod n stuffle_alphabet (stuffle_laws n) (y_word k) v w (has_index-y_word k) cv (omega arith) held in
         let ly : length (y_word k) ≡ k = length-y_word k in
         let some : 0 < length w = omega (arith, p.0, lw, ly) in
         none_over (reg_of m w t) (λ g. other ((reg_of-words m w t (long-ends w cw some) g).1 ∙ lw ∙ ap (λ j. j + length v) ly))
@@ -104,7 +107,8 @@ direct_value_of-none m (Dual u) h t other =
 pub direct_value_of-weight : (m : ℕ) (r : Direct) → is_direct r ≡ true → (t : Word) → 0 < direct_value_of m r t → length t ≡ direct_weight_of r
 direct_value_of-weight m r h t p = by (eqb_tells (length t) (direct_weight_of r))
   where
-    by : ((eqb (length t) (direct_weight_of r) ≡ true) × (length t ≡ direct_weight_of r)) ⊎ ((eqb (length t) (direct_weight_of r) ≡ false) × (length t ≢ direct_weight_of r)) → length t ≡ direct_weight_of r
+    by : ((eqb (length t) (direct_weight_of r) ≡ true) × (length t ≡ direct_weight_of r)) ⊎
+        ((eqb (length t) (direct_weight_of r) ≡ false) × (length t ≢ direct_weight_of r)) → length t ≡ direct_weight_of r
     by (inl q) = q.1
     by (inr q) = absurd (omega (arith, p, direct_value_of-none m r h t q.1))
 
@@ -123,7 +127,8 @@ repeated s ws = flat_map (λ w. replicate (s w) w) ws
 
 total-repeated : (f : Word → ℕ) (s : Sum) (ws : List Word) → total f (repeated s ws) ≡ total (λ w. s w * f w) ws
 unfolding repeated
-total-repeated f s ws = total-flat_map f (λ w. replicate (s w) w) ws ∙ total-same (λ w. total f (replicate (s w) w)) (λ w. s w * f w) ws (λ w. total-replicate f (s w) w)
+total-repeated f s ws = total-flat_map f (λ w. replicate (s w) w) ws
+    ∙ total-same (λ w. total f (replicate (s w) w)) (λ w. s w * f w) ws (λ w. total-replicate f (s w) w)
 
 times_none : (s : Word → ℕ) (ws : List Word) → total (λ w. s w * 0) ws ≡ 0
 times_none s ws = total-same (λ w. s w * 0) (λ w. 0) ws (λ w. omega arith) ∙ total-zero ws
@@ -137,11 +142,15 @@ picked (suc k) s [] e = absurd (omega arith)
 picked (suc k) s (X ∷ t) e =
     let g : Word → ℕ = λ w. s w * single w (X ∷ t) in
     let ih : total (λ w. s (X ∷ w) * single w t) (all_words k) ≡ s (X ∷ t) = picked k (λ w. s (X ∷ w)) t (omega arith) in
-    total-append g (map (λ w. X ∷ w) (all_words k)) (map (λ w. Y ∷ w) (all_words k)) ∙ (λ i. total-map g (λ w. X ∷ w) (all_words k) i + total-map g (λ w. Y ∷ w) (all_words k) i) ∙ omega (arith, ih, times_none (λ w. s (Y ∷ w)) (all_words k))
+    total-append g (map (λ w. X ∷ w) (all_words k)) (map (λ w. Y ∷ w) (all_words k))
+    ∙ (λ i. total-map g (λ w. X ∷ w) (all_words k) i + total-map g (λ w. Y ∷ w) (all_words k) i)
+    ∙ omega (arith, ih, times_none (λ w. s (Y ∷ w)) (all_words k))
 picked (suc k) s (Y ∷ t) e =
     let g : Word → ℕ = λ w. s w * single w (Y ∷ t) in
     let ih : total (λ w. s (Y ∷ w) * single w t) (all_words k) ≡ s (Y ∷ t) = picked k (λ w. s (Y ∷ w)) t (omega arith) in
-    total-append g (map (λ w. X ∷ w) (all_words k)) (map (λ w. Y ∷ w) (all_words k)) ∙ (λ i. total-map g (λ w. X ∷ w) (all_words k) i + total-map g (λ w. Y ∷ w) (all_words k) i) ∙ omega (arith, ih, times_none (λ w. s (X ∷ w)) (all_words k))
+    total-append g (map (λ w. X ∷ w) (all_words k)) (map (λ w. Y ∷ w) (all_words k))
+    ∙ (λ i. total-map g (λ w. X ∷ w) (all_words k) i + total-map g (λ w. Y ∷ w) (all_words k) i)
+    ∙ omega (arith, ih, times_none (λ w. s (X ∷ w)) (all_words k))
 
 not_picked : (k : ℕ) (s : Sum) (t : Word) → length t ≢ k → total (λ w. s w * single w t) (all_words k) ≡ 0
 unfolding all_words
@@ -149,15 +158,21 @@ not_picked zero s [] n = absurd (n refl)
 not_picked zero s (a ∷ t) n = omega arith
 not_picked (suc k) s [] n =
     let g : Word → ℕ = λ w. s w * single w [] in
-    total-append g (map (λ w. X ∷ w) (all_words k)) (map (λ w. Y ∷ w) (all_words k)) ∙ (λ i. total-map g (λ w. X ∷ w) (all_words k) i + total-map g (λ w. Y ∷ w) (all_words k) i) ∙ omega (arith, times_none (λ w. s (X ∷ w)) (all_words k), times_none (λ w. s (Y ∷ w)) (all_words k))
+    total-append g (map (λ w. X ∷ w) (all_words k)) (map (λ w. Y ∷ w) (all_words k))
+    ∙ (λ i. total-map g (λ w. X ∷ w) (all_words k) i + total-map g (λ w. Y ∷ w) (all_words k) i)
+    ∙ omega (arith, times_none (λ w. s (X ∷ w)) (all_words k), times_none (λ w. s (Y ∷ w)) (all_words k))
 not_picked (suc k) s (X ∷ t) n =
     let g : Word → ℕ = λ w. s w * single w (X ∷ t) in
     let ih : total (λ w. s (X ∷ w) * single w t) (all_words k) ≡ 0 = not_picked k (λ w. s (X ∷ w)) t (λ e. n (ap suc e)) in
-    total-append g (map (λ w. X ∷ w) (all_words k)) (map (λ w. Y ∷ w) (all_words k)) ∙ (λ i. total-map g (λ w. X ∷ w) (all_words k) i + total-map g (λ w. Y ∷ w) (all_words k) i) ∙ omega (arith, ih, times_none (λ w. s (Y ∷ w)) (all_words k))
+    total-append g (map (λ w. X ∷ w) (all_words k)) (map (λ w. Y ∷ w) (all_words k))
+    ∙ (λ i. total-map g (λ w. X ∷ w) (all_words k) i + total-map g (λ w. Y ∷ w) (all_words k) i)
+    ∙ omega (arith, ih, times_none (λ w. s (Y ∷ w)) (all_words k))
 not_picked (suc k) s (Y ∷ t) n =
     let g : Word → ℕ = λ w. s w * single w (Y ∷ t) in
     let ih : total (λ w. s (Y ∷ w) * single w t) (all_words k) ≡ 0 = not_picked k (λ w. s (Y ∷ w)) t (λ e. n (ap suc e)) in
-    total-append g (map (λ w. X ∷ w) (all_words k)) (map (λ w. Y ∷ w) (all_words k)) ∙ (λ i. total-map g (λ w. X ∷ w) (all_words k) i + total-map g (λ w. Y ∷ w) (all_words k) i) ∙ omega (arith, ih, times_none (λ w. s (X ∷ w)) (all_words k))
+    total-append g (map (λ w. X ∷ w) (all_words k)) (map (λ w. Y ∷ w) (all_words k))
+    ∙ (λ i. total-map g (λ w. X ∷ w) (all_words k) i + total-map g (λ w. Y ∷ w) (all_words k) i)
+    ∙ omega (arith, ih, times_none (λ w. s (X ∷ w)) (all_words k))
 
 sum_of-repeated : (k : ℕ) (s : Sum) → ((t : Word) → length t ≢ k → s t ≡ 0) → (t : Word) → sum_of (repeated s (all_words k)) t ≡ s t
 sum_of-repeated k s none t = total-repeated (λ w. single w t) s (all_words k) ∙ by (eqb_tells (length t) k)
@@ -167,24 +182,33 @@ sum_of-repeated k s none t = total-repeated (λ w. single w t) s (all_words k) �
     by (inr p) = not_picked k s t p.1 ∙ sym (none t p.1)
 
 -- a map of words that is continued linearly to terms with the coefficients of s, whose words have k letters
-pub continued_all_words : {E : Type 0} (m : ℕ) (value : E → ℕ) (terms : List (Word × E)) (k : ℕ) (s : Sum) → 0 < m → ((t : Word) → coefficient_of value terms t ≡ s t % m) → ((t : Word) → length t ≢ k → s t ≡ 0)
+pub continued_all_words : {E : Type 0} (m : ℕ) (value : E → ℕ) (terms : List (Word × E)) (k : ℕ) (s : Sum) → 0 < m
+    → ((t : Word) → coefficient_of value terms t ≡ s t % m) → ((t : Word) → length t ≢ k → s t ≡ 0)
     → (f : Word → Sum) (t : Word) → Same m (continued f (numbered value terms) t) (total (λ w. s w * f w t) (all_words k))
 continued_all_words m value terms k s pos is none f t =
-    continued_known m value terms (repeated s (all_words k)) pos (λ r. ap (λ n. n % m) (is r) ∙ same-mod m (s r) ∙ ap (λ n. n % m) (sym (sum_of-repeated k s none r))) f t
+    continued_known m value terms (repeated s (all_words k)) pos
+    (λ r. ap (λ n. n % m) (is r) ∙ same-mod m (s r) ∙ ap (λ n. n % m) (sym (sum_of-repeated k s none r))) f t
     ∙ ap (λ n. n % m) (total-repeated (λ w. f w t) s (all_words k))
 
 -- the same where the coefficients are those of a list of words
-pub continued_list : {E : Type 0} (m : ℕ) (value : E → ℕ) (terms : List (Word × E)) (ws : List Word) → 0 < m → ((t : Word) → coefficient_of value terms t ≡ sum_of ws t % m)
+pub continued_list : {E : Type 0} (m : ℕ) (value : E → ℕ) (terms : List (Word × E)) (ws : List Word) → 0 < m
+    → ((t : Word) → coefficient_of value terms t ≡ sum_of ws t % m)
     → (f : Word → Sum) (t : Word) → Same m (continued f (numbered value terms) t) (total (λ w. f w t) ws)
 continued_list m value terms ws pos is f t = continued_known m value terms ws pos (λ r. ap (λ n. n % m) (is r) ∙ same-mod m (sum_of ws r)) f t
 
-continued-same : (m : ℕ) (f g : Word → Sum) (ps : List (ℕ × Word)) (t : Word) → ((w : Word) → Same m (f w t) (g w t)) → Same m (continued f ps t) (continued g ps t)
+continued-same : (m : ℕ) (f g : Word → Sum) (ps : List (ℕ × Word)) (t : Word) → ((w : Word) → Same m (f w t) (g w t))
+    → Same m (continued f ps t) (continued g ps t)
 continued-same m f g [] t same = refl
-continued-same m f g (p ∷ ps) t same = same-add m (p.0 * f p.1 t) (p.0 * g p.1 t) (continued f ps t) (continued g ps t) (same-mul_left m (f p.1 t) (g p.1 t) p.0 (same p.1)) (continued-same m f g ps t same)
+continued-same m f g (p ∷ ps) t same =
+    same-add m (p.0 * f p.1 t) (p.0 * g p.1 t) (continued f ps t) (continued g ps t) (same-mul_left m (f p.1 t) (g p.1 t) p.0 (same p.1))
+    (continued-same m f g ps t same)
 
 -- the shuffle with a sum of one word
-pub shuffle_with_word : {E : Type 0} (m : ℕ) (value : E → ℕ) (other : List (Word × E)) (u : Word) → 0 < m → ((t : Word) → coefficient_of value other t ≡ single u t % m)
-    → (ps : List (ℕ × Word)) (t : Word) → Same m (continued (λ w. continued (λ v. sum_of (shuffle_of w v)) (numbered value other)) ps t) (continued (λ w. sum_of (shuffle_of w u)) ps t)
+pub shuffle_with_word : {E : Type 0} (m : ℕ) (value : E → ℕ) (other : List (Word × E)) (u : Word) → 0 < m
+    → ((t : Word) → coefficient_of value other t ≡ single u t % m)
+    → (ps : List (ℕ × Word)) (t : Word)
+    → Same m (continued (λ w. continued (λ v. sum_of (shuffle_of w v)) (numbered value other)) ps t) (continued (λ w. sum_of (shuffle_of w u)) ps t)
 shuffle_with_word m value other u pos is ps t =
     continued-same m (λ w. continued (λ v. sum_of (shuffle_of w v)) (numbered value other)) (λ w. sum_of (shuffle_of w u)) ps t
-    (λ w. continued_list m value other (u ∷ []) pos (λ r. is r ∙ ap (λ n. n % m) (omega arith)) (λ v. sum_of (shuffle_of w v)) t ∙ ap (λ n. n % m) (omega arith))
+    (λ w. continued_list m value other (u ∷ []) pos (λ r. is r ∙ ap (λ n. n % m) (omega arith)) (λ v. sum_of (shuffle_of w v)) t
+    ∙ ap (λ n. n % m) (omega arith))

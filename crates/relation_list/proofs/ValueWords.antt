@@ -16,14 +16,14 @@ use Rattle.relation_list.specs.declared.names.Direct.{Direct}
 use Rattle.relation_list.specs.declared.names.Direct.TheVariants.{Fin, Reg, Dual}
 use Rattle.relation_list.specs.declared.names.RelName.{RelName}
 use Rattle.relation_list.specs.declared.names.RelName.TheVariants.{Plain, Prod}
-use Rattle.relation_list.specs.WordLists.{all_words}
+use Rattle.zeta_model.specs.WordLists.{all_words}
 use Rattle.relation_list.specs.Names.{in_order, direct_weight_of, direct_depth_of, is_direct, is_name_of}
 use Rattle.relation_list.specs.Values.{direct_value_of, value_of, IsWordOf}
 use Rattle.relation_list.proofs.Members.{From, from-map}
 use Rattle.relation_list.proofs.NameBounds.{fin-admissible, reg-parts, dual-parts, plain-direct, prod-parts}
 use Rattle.relation_list.proofs.ProductWords.{At, total-some, sum_of-held, held-some, single-some, depth-shuffle, depth-stuffle, shuffle-admissible, stuffle-admissible}
 use Rattle.relation_list.proofs.ValueLemmas.{admissible-has_index, length-y_word, has_index-y_word, direct_value_of-weight}
-use Rattle.relation_list.proofs.WordListLemmas.{depth_of-x, depth_of-y}
+use Rattle.zeta_model.proofs.DepthLemmas.{depth_of-x, depth_of-y}
 
 abbrev Word : Type 0
 Word = List Letter
@@ -55,7 +55,8 @@ depth-reg_behind : (m j : ℕ) (w t : Word) → 0 < reg_behind m j w t → depth
 depth-reg_behind m zero [] t h = omega (arith, ap depth_of (single-some [] t h))
 depth-reg_behind m (suc j) [] t h = absurd (omega arith)
 depth-reg_behind m j (X ∷ u) t h =
-    let held : Contains (map (λ r. X ∷ r) (shuffle_of (y_word j) u)) t = sum_of-held (map (λ r. X ∷ r) (shuffle_of (y_word j) u)) t (right_factor (sign_of m j) (sum_of (map (λ r. X ∷ r) (shuffle_of (y_word j) u)) t) h) in
+    let held : Contains (map (λ r. X ∷ r) (shuffle_of (y_word j) u)) t =
+    sum_of-held (map (λ r. X ∷ r) (shuffle_of (y_word j) u)) t (right_factor (sign_of m j) (sum_of (map (λ r. X ∷ r) (shuffle_of (y_word j) u)) t) h) in
     let r : From (λ r. X ∷ r) (shuffle_of (y_word j) u) t = from-map (λ r. X ∷ r) (shuffle_of (y_word j) u) t held in
     let e : depth_of t ≡ depth_of r.origin = ap depth_of (sym r.gives) ∙ depth_of-x r.origin in
     omega (arith, e, depth-shuffle (y_word j) u r.origin (held-some (shuffle_of (y_word j) u) r.origin r.held), depth-y_word j, depth_of-x u)
@@ -65,7 +66,8 @@ fin-fits : (m : ℕ) (u v t : Word) → is_direct (Fin u v) ≡ true → 0 < dir
 fin-fits m u v t h p = by (one_of (sum_of (shuffle_of u v) t) (sum_of (stuffle_of u v) t) (m - 1) p)
   where
     by : (0 < sum_of (shuffle_of u v) t) ⊎ (0 < sum_of (stuffle_of u v) t) → Fits (depth_of u + depth_of v) t
-    by (inl q) = let a : (is_admissible u ≡ true) × (is_admissible v ≡ true) × (in_order u v ≡ true) = fin-admissible (Fin u v) u v h refl in record { admissible = shuffle-admissible u v t a.0 a.1 q; depth = depth-shuffle u v t q }
+    by (inl q) = let a : (is_admissible u ≡ true) × (is_admissible v ≡ true) × (in_order u v ≡ true) = fin-admissible (Fin u v) u v h refl in
+        record { admissible = shuffle-admissible u v t a.0 a.1 q; depth = depth-shuffle u v t q }
     by (inr q) =
         let a : (is_admissible u ≡ true) × (is_admissible v ≡ true) × (in_order u v ≡ true) = fin-admissible (Fin u v) u v h refl in
         let n : ℕ = length u + length v in
@@ -99,8 +101,10 @@ dual-fits : (m : ℕ) (u t : Word) → is_direct (Dual u) ≡ true → 0 < direc
 dual-fits m u t h p = by (one_of (single u t) (single (dual_of u) t) (m - 1) p)
   where
     by : (0 < single u t) ⊎ (0 < single (dual_of u) t) → Fits (max (depth_of u) (depth_of (dual_of u))) t
-    by (inl q) = let e : t ≡ u = single-some u t q in record { admissible = ap is_admissible e ∙ (dual-parts (Dual u) u h refl).0; depth = omega (arith, ap depth_of e) }
-    by (inr q) = let e : t ≡ dual_of u = single-some (dual_of u) t q in record { admissible = ap is_admissible e ∙ is_admissible-dual_of u ∙ (dual-parts (Dual u) u h refl).0; depth = omega (arith, ap depth_of e) }
+    by (inl q) = let e : t ≡ u = single-some u t q in
+        record { admissible = ap is_admissible e ∙ (dual-parts (Dual u) u h refl).0; depth = omega (arith, ap depth_of e) }
+    by (inr q) = let e : t ≡ dual_of u = single-some (dual_of u) t q in
+        record { admissible = ap is_admissible e ∙ is_admissible-dual_of u ∙ (dual-parts (Dual u) u h refl).0; depth = omega (arith, ap depth_of e) }
 
 direct-fits : (m : ℕ) (r : Direct) (t : Word) → is_direct r ≡ true → 0 < direct_value_of m r t → Fits (direct_depth_of r) t
 direct-fits m (Fin u v) t h p = fin-fits m u v t h p
@@ -114,7 +118,8 @@ value_of-words m (Plain r) t h p =
     record { admissible = f.admissible; weight = direct_value_of-weight m r d t p; depth = f.depth }
 value_of-words m (Prod r u) t h p =
     let a : (is_direct r ≡ true) × (3 ≤ direct_weight_of r) × (is_admissible u ≡ true) = prod-parts (Prod r u) r u h refl in
-    let s : At (λ w. direct_value_of m r w * sum_of (shuffle_of w u) t) (all_words (direct_weight_of r)) = total-some (λ w. direct_value_of m r w * sum_of (shuffle_of w u) t) (all_words (direct_weight_of r)) p in
+    let s : At (λ w. direct_value_of m r w * sum_of (shuffle_of w u) t) (all_words (direct_weight_of r)) =
+    total-some (λ w. direct_value_of m r w * sum_of (shuffle_of w u) t) (all_words (direct_weight_of r)) p in
     let w : Word = s.word in
     let pw : 0 < direct_value_of m r w = left_factor (direct_value_of m r w) (sum_of (shuffle_of w u) t) s.some in
     let pt : 0 < sum_of (shuffle_of w u) t = right_factor (direct_value_of m r w) (sum_of (shuffle_of w u) t) s.some in

@@ -1,6 +1,6 @@
 -- The listing holds the names of its weight and depth, and no others.
 use Rattle.std.proofs.Common.{◌≡◌, ℕ, ◌+◌, ◌-◌, ◌<◌, ◌≤◌, nat_lt, nat_le, inl, inr, Bool, true, false, ◌&&◌, ◌↔◌, List, [], ◌∷◌, ◌++◌, length, map, filter, Contains, refl, subst, arith}
-use Rattle.std.specs.List.{flat_map, range_with_len}
+use Rattle.std.specs.List.{range_with_len}
 use Rattle.std.proofs.lemmas.List.Elements.{All-contains, Contains-append_left, Contains-append_right, Contains-append_cases}
 use Rattle.std.proofs.lemmas.Bool.Decides.{nat_tests}
 use Rattle.zeta_model.specs.declared.Letter.{Letter}
@@ -10,20 +10,22 @@ use Rattle.relation_list.specs.declared.names.Direct.{Direct}
 use Rattle.relation_list.specs.declared.names.Direct.TheVariants.{Fin, Reg, Dual}
 use Rattle.relation_list.specs.declared.names.RelName.{RelName}
 use Rattle.relation_list.specs.declared.names.RelName.TheVariants.{Plain, Prod}
-use Rattle.relation_list.specs.WordLists.{all_words, admissible_words}
+use Rattle.zeta_model.specs.WordLists.{all_words, admissible_words}
 use Rattle.relation_list.specs.Names.{in_order, below_dual, direct_weight_of, weight_of_name, depth_of_name, is_direct, is_formed, is_name_of}
-use Rattle.relation_list.specs.Listings.{fins, regs, duals, directs, prods, names, listing_of}
+use Rattle.relation_list.specs.Listings.{fins_by, fins_from, fins, regs_from, regs, duals, directs, prods_by, prods_from, prods, names, listing_of}
 use Rattle.relation_list.proofs.Members.{From, Within, contains_first, contains-map, from-map, contains-flat_map, within-flat_map, contains-filter, from-filter, contains-range, within-range}
-use Rattle.relation_list.proofs.WordListLemmas.{length-all_words}
+use Rattle.word_letters.proofs.AdmissibleWords.{length-all_words}
 
 abbrev Word : Type 0
 Word = List Letter
 
-contains-all_words : (w : Word) → Contains (all_words (length w)) w
+pub contains-all_words : (w : Word) → Contains (all_words (length w)) w
 unfolding all_words
 contains-all_words [] = contains_first [] []
-contains-all_words (X ∷ w) = Contains-append_left (map (λ t. X ∷ t) (all_words (length w))) (map (λ t. Y ∷ t) (all_words (length w))) (X ∷ w) (contains-map (λ t. X ∷ t) (all_words (length w)) w (contains-all_words w))
-contains-all_words (Y ∷ w) = Contains-append_right (map (λ t. X ∷ t) (all_words (length w))) (map (λ t. Y ∷ t) (all_words (length w))) (Y ∷ w) (contains-map (λ t. Y ∷ t) (all_words (length w)) w (contains-all_words w))
+contains-all_words (X ∷ w) = Contains-append_left (map (λ t. X ∷ t) (all_words (length w))) (map (λ t. Y ∷ t) (all_words (length w))) (X ∷ w)
+    (contains-map (λ t. X ∷ t) (all_words (length w)) w (contains-all_words w))
+contains-all_words (Y ∷ w) = Contains-append_right (map (λ t. X ∷ t) (all_words (length w))) (map (λ t. Y ∷ t) (all_words (length w))) (Y ∷ w)
+    (contains-map (λ t. Y ∷ t) (all_words (length w)) w (contains-all_words w))
 
 -- w is an admissible word of k letters
 pub record Admits (k : ℕ) (w : Word) : Type 0 where
@@ -75,12 +77,6 @@ at_most k n h = grind (arith, nat_tests)
 is_at_most : (k n : ℕ) → k ≤ n → nat_le k n ≡ true
 is_at_most k n h = grind (arith, nat_tests)
 
-abbrev pub fins_by : ℕ → Word → List Direct
-fins_by n u = map (λ v. Fin u v) (filter (in_order u) (admissible_words n))
-
-abbrev pub fins_from : ℕ → ℕ → List Direct
-fins_from w k = flat_map (fins_by (w - k)) (admissible_words k)
-
 -- r is Fin of u with a word of n letters
 pub record IsFinOf (n : ℕ) (u : Word) (r : Direct) : Type 0 where
   pub other : Word
@@ -112,7 +108,8 @@ formed-fin w r c =
     let k : (1 ≤ f.origin) × (f.origin < 1 + (w - 1)) = within-range 1 (w - 1) f.origin f.held in
     let a : IsFinAt w f.origin r = fin_at w f.origin r f.gives in
     subst (Formed w) a.fin.is (record {
-      direct = both (is_admissible a.word) (is_admissible a.fin.other && in_order a.word a.fin.other) a.admits_word.admissible (both (is_admissible a.fin.other) (in_order a.word a.fin.other) a.fin.admits_other.admissible a.fin.ordered);
+      direct = both (is_admissible a.word) (is_admissible a.fin.other && in_order a.word a.fin.other) a.admits_word.admissible
+          (both (is_admissible a.fin.other) (in_order a.word a.fin.other) a.fin.admits_other.admissible a.fin.ordered);
       heavy = omega (arith, k.0, k.1, a.admits_word.long, a.fin.admits_other.long);
     })
 
@@ -127,10 +124,8 @@ held-fin w u v h e =
     contains-flat_map (fins_from w) (range_with_len 1 (w - 1)) (length u) (Fin u v)
     (contains-range 1 (w - 1) (length u) (omega (arith, admissible-long u au)) (omega (arith, admissible-long u au, admissible-long v av)))
     (contains-flat_map (fins_by (w - length u)) (admissible_words (length u)) u (Fin u v) (admitted (length u) u au refl)
-    (contains-map (λ t. Fin u t) (filter (in_order u) (admissible_words (w - length u))) v (contains-filter (in_order u) (admissible_words (w - length u)) v (admitted (w - length u) v av long) o)))
-
-abbrev pub regs_from : ℕ → ℕ → List Direct
-regs_from w m = map (λ v. Reg m v) (admissible_words (w - m))
+    (contains-map (λ t. Fin u t) (filter (in_order u) (admissible_words (w - length u))) v
+    (contains-filter (in_order u) (admissible_words (w - length u)) v (admitted (w - length u) v av long) o)))
 
 -- r is Reg of m with a word of w - m letters
 pub record IsRegAt (w m : ℕ) (r : Direct) : Type 0 where
@@ -185,14 +180,9 @@ formed-direct w r c = elim (Contains-append_cases (fins w) (regs w ++ duals w) r
 
 held-direct : (w : ℕ) (r : Direct) → is_direct r ≡ true → direct_weight_of r ≡ w → Contains (directs w) r
 held-direct w (Fin u v) h e = Contains-append_left (fins w) (regs w ++ duals w) (Fin u v) (held-fin w u v h e)
-held-direct w (Reg m v) h e = Contains-append_right (fins w) (regs w ++ duals w) (Reg m v) (Contains-append_left (regs w) (duals w) (Reg m v) (held-reg w m v h e))
+held-direct w (Reg m v) h e = Contains-append_right (fins w) (regs w ++ duals w) (Reg m v)
+    (Contains-append_left (regs w) (duals w) (Reg m v) (held-reg w m v h e))
 held-direct w (Dual u) h e = Contains-append_right (fins w) (regs w ++ duals w) (Dual u) (Contains-append_right (regs w) (duals w) (Dual u) (held-dual w u h e))
-
-abbrev pub prods_by : ℕ → Direct → List RelName
-prods_by n r = map (λ u. Prod r u) (admissible_words n)
-
-abbrev pub prods_from : ℕ → ℕ → List RelName
-prods_from w k = flat_map (prods_by (w - k)) (directs k)
 
 -- n is Prod of r with a word of k letters
 pub record IsProdOf (k : ℕ) (r : Direct) (n : RelName) : Type 0 where
@@ -228,7 +218,9 @@ named-prod w n c =
     let k : (3 ≤ f.origin) × (f.origin < 3 + (w - 4)) = within-range 3 (w - 4) f.origin f.held in
     let a : IsProdAt w f.origin n = prod_at w f.origin n f.gives in
     subst (Named w) a.prod.is (record {
-      formed = both (is_direct a.factor) (nat_le 3 (direct_weight_of a.factor) && is_admissible a.prod.word) a.formed.direct (both (nat_le 3 (direct_weight_of a.factor)) (is_admissible a.prod.word) (is_at_most 3 (direct_weight_of a.factor) (omega (arith, k.0, a.formed.heavy))) a.prod.admits_word.admissible);
+      formed = both (is_direct a.factor) (nat_le 3 (direct_weight_of a.factor) && is_admissible a.prod.word) a.formed.direct
+          (both (nat_le 3 (direct_weight_of a.factor)) (is_admissible a.prod.word)
+          (is_at_most 3 (direct_weight_of a.factor) (omega (arith, k.0, a.formed.heavy))) a.prod.admits_word.admissible);
       heavy = omega (arith, k.0, k.1, a.formed.heavy, a.prod.admits_word.long);
     })
 
@@ -254,7 +246,8 @@ named w n c = elim (Contains-append_cases (map (λ r. Plain r) (directs w)) (pro
 ]
 
 held : (w : ℕ) (n : RelName) → is_formed n ≡ true → weight_of_name n ≡ w → Contains (names w) n
-held w (Plain r) h e = Contains-append_left (map (λ r. Plain r) (directs w)) (prods w) (Plain r) (contains-map (λ r. Plain r) (directs w) r (held-direct w r h e))
+held w (Plain r) h e = Contains-append_left (map (λ r. Plain r) (directs w)) (prods w) (Plain r)
+    (contains-map (λ r. Plain r) (directs w) r (held-direct w r h e))
 held w (Prod r u) h e = Contains-append_right (map (λ r. Plain r) (directs w)) (prods w) (Prod r u) (held-prod w r u h e)
 
 pub listing_of-whole : (w d : ℕ) (n : RelName) → w ≤ 24 → Contains (listing_of w d) n ↔ ((is_name_of n ≡ true) × (weight_of_name n ≡ w) × (depth_of_name n ≤ d))
@@ -264,8 +257,13 @@ listing_of-whole w d n h = (there, back)
     there : Contains (listing_of w d) n → (is_name_of n ≡ true) × (weight_of_name n ≡ w) × (depth_of_name n ≤ d)
     there c =
         let f : Contains (names w) n × (nat_le (depth_of_name n) d ≡ true) = from-filter (λ n. nat_le (depth_of_name n) d) (names w) n c in
-        let a : Named w n = named w n f.0 in
-        (both (is_formed n) (nat_le (weight_of_name n) 24) a.formed (is_at_most (weight_of_name n) 24 (omega (arith, a.heavy))), a.heavy, at_most (depth_of_name n) d f.1)
+        let a : Named w n = named w n f.0 in (
+          both (is_formed n) (nat_le (weight_of_name n) 24) a.formed (is_at_most (weight_of_name n) 24 (omega (arith, a.heavy))),
+          a.heavy,
+          at_most
+              (depth_of_name n) d f.1,
+        )
 
     back : (is_name_of n ≡ true) × (weight_of_name n ≡ w) × (depth_of_name n ≤ d) → Contains (listing_of w d) n
-    back b = contains-filter (λ n. nat_le (depth_of_name n) d) (names w) n (held w n (first (is_formed n) (nat_le (weight_of_name n) 24) b.0) b.1) (is_at_most (depth_of_name n) d b.2)
+    back b = contains-filter (λ n. nat_le (depth_of_name n) d) (names w) n (held w n (first (is_formed n) (nat_le (weight_of_name n) 24) b.0) b.1)
+        (is_at_most (depth_of_name n) d b.2)

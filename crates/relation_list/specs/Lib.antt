@@ -1,6 +1,5 @@
-pub mod WordLists
 pub mod Names
 pub mod Listings
 pub mod Texts
 pub mod Values
-pub mod Steps
+pub mod Inner

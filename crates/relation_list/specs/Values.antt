@@ -12,7 +12,7 @@ use Rattle.relation_list.specs.declared.names.Direct.{Direct}
 use Rattle.relation_list.specs.declared.names.Direct.TheVariants.{Fin, Reg, Dual}
 use Rattle.relation_list.specs.declared.names.RelName.{RelName}
 use Rattle.relation_list.specs.declared.names.RelName.TheVariants.{Plain, Prod}
-use Rattle.relation_list.specs.WordLists.{all_words}
+use Rattle.zeta_model.specs.WordLists.{all_words}
 use Rattle.relation_list.specs.Names.{direct_weight_of, weight_of_name, depth_of_name}
 
 -- shuffle less stuffle; the regularised stuffle of y^k with v; a word less its dual

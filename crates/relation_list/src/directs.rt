@@ -1,18 +1,17 @@
 //! The direct names of a weight and of a depth at most.
-ghost use Rattle.std.specs.Prelude.{◌≡◌, ◌+◌, ◌<◌, ◌≤◌, ◌++◌, length, IfOk, OnOk};
-ghost use Rattle.zeta_model.specs.Words.{depth_of};
-ghost use Rattle.relation_list.specs.Steps.{fins_within, fins_at, fins_of, regs_within, regs_at, duals_within, directs_within};
+ghost use Rattle.std.specs.Prelude.{◌≡◌, ◌+◌, ◌<◌, ◌≤◌, ◌++◌, length, filter, IfOk, OnOk};
+ghost use Rattle.relation_list.specs.Listings.{fins_by, fins_from, fins, regs_from, regs, duals, directs};
+ghost use Rattle.relation_list.specs.Inner.{direct_within};
 
 use crate::names::{Direct, below_dual, in_order};
-use crate::words::words_within;
 use duality_map::dual;
 use std::alloc::{AllocError, Global};
-use word_letters::Word;
+use word_letters::{Word, admissible_words};
 
 /// The direct names of weight `w` and depth at most `d`: Fin, Reg, then Dual.
 pub(crate) fn directs_within(alloc: Global, w: u32, d: u32) -> Result<Vec<Direct>, AllocError>
     requires { w ≤ 24 }
-    ensures { IfOk result (λ names. names.items ≡ directs_within w d) }
+    ensures { IfOk result (λ names. names.items ≡ filter (direct_within d) (directs w)) }
 {
     let mut names = Vec::new(alloc);
     push_fins(alloc, &mut names, w, d)?;
@@ -24,7 +23,7 @@ pub(crate) fn directs_within(alloc: Global, w: u32, d: u32) -> Result<Vec<Direct
 /// Puts the Fin of weight `w` and depth at most `d` at the end of the list.
 fn push_fins(alloc: Global, names: &mut Vec<Direct>, w: u32, d: u32) -> Result<(), AllocError>
     requires { w ≤ 24 }
-    ensures { OnOk result (names.new.items ≡ names.old.items ++ fins_within w d) }
+    ensures { OnOk result (names.new.items ≡ names.old.items ++ filter (direct_within d) (fins w)) }
 {
     for k in 1..w {
         push_fins_at(alloc, names, w, d, k)?;
@@ -42,9 +41,9 @@ fn push_fins_at(
 ) -> Result<(), AllocError>
     requires lower { k ≤ w }
     requires fits { w ≤ 24 }
-    ensures { OnOk result (names.new.items ≡ names.old.items ++ fins_at w d k) }
+    ensures { OnOk result (names.new.items ≡ names.old.items ++ filter (direct_within d) (fins_from w k)) }
 {
-    let words = words_within(alloc, k, d)?;
+    let words = admissible_words(alloc, k, d)?;
     for u in &words {
         push_fins_of(alloc, names, w - k, d, *u)?;
     }
@@ -60,9 +59,9 @@ fn push_fins_of(
     u: Word,
 ) -> Result<(), AllocError>
     requires { k ≤ 24 }
-    ensures { OnOk result (names.new.items ≡ names.old.items ++ fins_of k d u) }
+    ensures { OnOk result (names.new.items ≡ names.old.items ++ filter (direct_within d) (fins_by k u)) }
 {
-    let words = words_within(alloc, k, d.saturating_sub(u.depth()))?;
+    let words = admissible_words(alloc, k, d.saturating_sub(u.depth()))?;
     for v in &words {
         if in_order(u, *v) {
             names.push(Direct::Fin { u, v: *v })?;
@@ -74,7 +73,7 @@ fn push_fins_of(
 /// Puts the Reg of weight `w` and depth at most `d` at the end of the list.
 fn push_regs(alloc: Global, names: &mut Vec<Direct>, w: u32, d: u32) -> Result<(), AllocError>
     requires { w ≤ 24 }
-    ensures { OnOk result (names.new.items ≡ names.old.items ++ regs_within w d) }
+    ensures { OnOk result (names.new.items ≡ names.old.items ++ filter (direct_within d) (regs w)) }
 {
     for m in 1..w {
         push_regs_at(alloc, names, w, d, m)?;
@@ -92,9 +91,9 @@ fn push_regs_at(
 ) -> Result<(), AllocError>
     requires lower { m ≤ w }
     requires fits { w ≤ 24 }
-    ensures { OnOk result (names.new.items ≡ names.old.items ++ regs_at w d m) }
+    ensures { OnOk result (names.new.items ≡ names.old.items ++ filter (direct_within d) (regs_from w m)) }
 {
-    let words = words_within(alloc, w - m, d.saturating_sub(m))?;
+    let words = admissible_words(alloc, w - m, d.saturating_sub(m))?;
     for v in &words {
         names.push(Direct::Reg { m, v: *v })?;
     }
@@ -104,9 +103,9 @@ fn push_regs_at(
 /// Puts the Dual of weight `w` and depth at most `d` at the end of the list.
 fn push_duals(alloc: Global, names: &mut Vec<Direct>, w: u32, d: u32) -> Result<(), AllocError>
     requires { w ≤ 24 }
-    ensures { OnOk result (names.new.items ≡ names.old.items ++ duals_within w d) }
+    ensures { OnOk result (names.new.items ≡ names.old.items ++ filter (direct_within d) (duals w)) }
 {
-    let words = words_within(alloc, w, d)?;
+    let words = admissible_words(alloc, w, d)?;
     for u in &words {
         if below_dual(*u) && dual(*u).depth() <= d {
             names.push(Direct::Dual { u: *u })?;

@@ -21,4 +21,3 @@ mod name_value;
 mod names;
 #[cfg(test)]
 mod tests;
-mod words;

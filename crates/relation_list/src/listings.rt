@@ -1,13 +1,13 @@
 //! The listing of the names of a weight and of a depth at most.
-ghost use Rattle.std.specs.Prelude.{◌≡◌, ◌+◌, ◌<◌, ◌≤◌, ◌^◌, ◌++◌, length, IfOk, OnOk};
+ghost use Rattle.std.specs.Prelude.{◌≡◌, ◌+◌, ◌<◌, ◌≤◌, ◌^◌, ◌++◌, length, filter, IfOk, OnOk};
 ghost use Rattle.relation_list.specs.Names.{direct_depth_of};
-ghost use Rattle.relation_list.specs.Listings.{listing_of};
-ghost use Rattle.relation_list.specs.Steps.{prods_within, prods_at, prods_of};
+ghost use Rattle.relation_list.specs.Listings.{prods_by, prods_from, listing_of};
+ghost use Rattle.relation_list.specs.Inner.{name_within};
 
 use crate::directs::directs_within;
 use crate::names::{Direct, RelName, direct_depth};
-use crate::words::words_within;
 use std::alloc::{AllocError, Global};
+use word_letters::admissible_words;
 
 /// All names of weight `w` and depth at most `d` in their order: Fin by weight of u, u and v; Reg by m and v; Dual by u; Prod by weight and
 /// place of r and by u. The number of a relation is its place, from 0.
@@ -40,7 +40,7 @@ fn push_prods_at(
     requires lower { k ≤ w }
     requires fits { w ≤ 24 }
     requires depth { d < 2 ^ 32 }
-    ensures { OnOk result (names.new.items ≡ names.old.items ++ prods_at w d k) }
+    ensures { OnOk result (names.new.items ≡ names.old.items ++ filter (name_within d) (prods_from w k)) }
 {
     let directs = directs_within(alloc, k, d)?;
     for r in &directs {
@@ -59,9 +59,9 @@ fn push_prods_of(
 ) -> Result<(), AllocError>
     requires fits { k ≤ 24 }
     requires depth { direct_depth_of r.now ≤ d }
-    ensures { OnOk result (names.new.items ≡ names.old.items ++ prods_of k d r.now) }
+    ensures { OnOk result (names.new.items ≡ names.old.items ++ filter (name_within d) (prods_by k r.now)) }
 {
-    let words = words_within(alloc, k, d - direct_depth(r))?;
+    let words = admissible_words(alloc, k, d - direct_depth(r))?;
     for u in &words {
         names.push(RelName::Prod { r: *r, u: *u })?;
     }

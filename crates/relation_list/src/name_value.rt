@@ -1,48 +1,38 @@
 //! The value of a name, a sum of words.
-ghost use Rattle.std.specs.Prelude.{◌≡◌, ◌+◌, ◌-◌, ◌%◌, ◌≤◌, IsTrue, IfOk, All, true, List, length};
+ghost use Rattle.std.specs.Prelude.{◌≡◌, ◌+◌, ◌-◌, ◌≤◌, IsTrue, IfOk, All, true, length};
 ghost use Rattle.std.specs.Map.{keys_of};
-ghost use Rattle.quasi_product.specs.SumProducts.{numbered};
-ghost use Rattle.word_sums.specs.Terms.{coefficient_of, AllIn};
-ghost use Rattle.zeta_model.specs.declared.Letter.{Letter};
+ghost use Rattle.word_sums.specs.Sums.{IsSumOf};
+ghost use Rattle.word_sums.specs.Terms.{AllIn};
 ghost use Rattle.zeta_model.specs.Words.{has_index};
-ghost use Rattle.zeta_model.specs.Product.{prod};
 ghost use Rattle.zeta_model.specs.Alphabets.{shuffle_of};
-ghost use Rattle.zeta_model.specs.Sums.{single, sum_of, continued};
-ghost use Rattle.zeta_model.specs.Regularise.{y_word as y_word_of};
+ghost use Rattle.zeta_model.specs.Sums.{single, sum_of, numbered, continued};
 ghost use Rattle.relation_list.specs.declared.names.Direct.TheVariants.{Fin, Reg, Dual};
 ghost use Rattle.relation_list.specs.Names.{direct_weight_of, is_direct, is_name_of};
 ghost use Rattle.relation_list.specs.Values.{direct_value_of, value_of, IsWordOf};
 
 use crate::names::{Direct, RelName};
 use duality_map::dual;
-use quasi_product::{Letters, ProductFault, ShuffleLetters, StuffleLetters, product, product_sums};
+use quasi_product::{ShuffleLetters, StuffleLetters, product_sums_within, product_within};
 use regularise_core::{RegFault, reg};
 use residues::Ring;
 use std::alloc::{AllocError, Global};
-use word_letters::{Letter, Word};
+use word_letters::Word;
 use word_sums::WordSum;
 
 /// The value of a name: the shuffle of two words less their stuffle, the regularised stuffle of a power of y with a word, a word less
 /// its dual, or the shuffle of one of these with a word (Ihara, Kaneko and Zagier 2006). It is a sum of admissible words.
 pub fn value<R: Ring>(alloc: Global, ring: &R, name: &RelName) -> Result<WordSum<R>, AllocError>
     requires { IsTrue (is_name_of name.now) }
-    ensures value { IfOk result (λ sum. (t : List Letter) → coefficient_of (R.value ring.now) sum t
-        ≡ value_of (R.modulus ring.now) name.now t % R.modulus ring.now) }
+    ensures value { IfOk result (IsSumOf R.zero (R.has ring.now) (R.value ring.now) (R.modulus ring.now) (value_of (R.modulus ring.now) name.now)) }
     ensures words { IfOk result (λ sum. All (IsWordOf name.now) (keys_of sum)) }
-    ensures in_ring { IfOk result (λ sum. AllIn (R.has ring.now) sum) }
 {
-    let sum = summed(alloc, ring, name)?;
-    // The length tells that no term is zero: so the words of the sum are words of the value.
-    let _ = sum.len();
-    Ok(sum)
+    summed(alloc, ring, name)
 }
 
 /// The value of a name by its kind.
 fn summed<R: Ring>(alloc: Global, ring: &R, name: &RelName) -> Result<WordSum<R>, AllocError>
     requires { IsTrue (is_name_of name.now) }
-    ensures value { IfOk result (λ sum. (t : List Letter) → coefficient_of (R.value ring.now) sum t
-        ≡ value_of (R.modulus ring.now) name.now t % R.modulus ring.now) }
-    ensures in_ring { IfOk result (λ sum. AllIn (R.has ring.now) sum) }
+    ensures { IfOk result (IsSumOf R.zero (R.has ring.now) (R.value ring.now) (R.modulus ring.now) (value_of (R.modulus ring.now) name.now)) }
 {
     match name {
         RelName::Plain(r) => direct_value(alloc, ring, r),
@@ -57,9 +47,7 @@ fn summed<R: Ring>(alloc: Global, ring: &R, name: &RelName) -> Result<WordSum<R>
 fn direct_value<R: Ring>(alloc: Global, ring: &R, r: &Direct) -> Result<WordSum<R>, AllocError>
     requires direct { is_direct r.now ≡ true }
     requires fits { direct_weight_of r.now ≤ 24 }
-    ensures value { IfOk result (λ sum. (t : List Letter) → coefficient_of (R.value ring.now) sum t
-        ≡ direct_value_of (R.modulus ring.now) r.now t % R.modulus ring.now) }
-    ensures in_ring { IfOk result (λ sum. AllIn (R.has ring.now) sum) }
+    ensures { IfOk result (IsSumOf R.zero (R.has ring.now) (R.value ring.now) (R.modulus ring.now) (direct_value_of (R.modulus ring.now) r.now)) }
 {
     match r {
         Direct::Fin { u, v } => fin_value(alloc, ring, *u, *v),
@@ -73,9 +61,7 @@ fn fin_value<R: Ring>(alloc: Global, ring: &R, u: Word, v: Word) -> Result<WordS
     requires covers_u { has_index u ≡ true }
     requires covers_v { has_index v ≡ true }
     requires fits { length u + length v ≤ 24 }
-    ensures value { IfOk result (λ sum. (t : List Letter) → coefficient_of (R.value ring.now) sum t
-        ≡ direct_value_of (R.modulus ring.now) (Fin u v) t % R.modulus ring.now) }
-    ensures in_ring { IfOk result (λ sum. AllIn (R.has ring.now) sum) }
+    ensures { IfOk result (IsSumOf R.zero (R.has ring.now) (R.value ring.now) (R.modulus ring.now) (direct_value_of (R.modulus ring.now) (Fin u v))) }
 {
     let mut sum = product_within::<ShuffleLetters, R>(alloc, ring, u, v)?;
     let stuffle = product_within::<StuffleLetters, R>(alloc, ring, u, v)?;
@@ -87,11 +73,9 @@ fn fin_value<R: Ring>(alloc: Global, ring: &R, u: Word, v: Word) -> Result<WordS
 fn reg_value<R: Ring>(alloc: Global, ring: &R, m: u32, v: Word) -> Result<WordSum<R>, AllocError>
     requires covers_v { has_index v ≡ true }
     requires fits { m + length v ≤ 24 }
-    ensures value { IfOk result (λ sum. (t : List Letter) → coefficient_of (R.value ring.now) sum t
-        ≡ direct_value_of (R.modulus ring.now) (Reg m v) t % R.modulus ring.now) }
-    ensures in_ring { IfOk result (λ sum. AllIn (R.has ring.now) sum) }
+    ensures { IfOk result (IsSumOf R.zero (R.has ring.now) (R.value ring.now) (R.modulus ring.now) (direct_value_of (R.modulus ring.now) (Reg m v))) }
 {
-    let stuffle = product_within::<StuffleLetters, R>(alloc, ring, y_word(m), v)?;
+    let stuffle = product_within::<StuffleLetters, R>(alloc, ring, Word::y_power(m), v)?;
     match reg(alloc, ring, &stuffle) {
         Ok(sum) => Ok(sum),
         Err(RegFault::Memory(e)) => Err(e),
@@ -101,9 +85,7 @@ fn reg_value<R: Ring>(alloc: Global, ring: &R, m: u32, v: Word) -> Result<WordSu
 
 /// A word less its dual.
 fn dual_value<R: Ring>(alloc: Global, ring: &R, u: Word) -> Result<WordSum<R>, AllocError>
-    ensures value { IfOk result (λ sum. (t : List Letter) → coefficient_of (R.value ring.now) sum t
-        ≡ direct_value_of (R.modulus ring.now) (Dual u) t % R.modulus ring.now) }
-    ensures in_ring { IfOk result (λ sum. AllIn (R.has ring.now) sum) }
+    ensures { IfOk result (IsSumOf R.zero (R.has ring.now) (R.value ring.now) (R.modulus ring.now) (direct_value_of (R.modulus ring.now) (Dual u))) }
 {
     let mut sum = word_sum(alloc, ring, u)?;
     sum.add_term(ring, dual(u), minus_one(ring))?;
@@ -119,44 +101,15 @@ fn times_word<R: Ring>(
 ) -> Result<WordSum<R>, AllocError>
     requires in_ring { AllIn (R.has ring.now) sum.now }
     requires fits { All (λ w. length w + length u ≤ 24) (keys_of sum.now) }
-    ensures value { IfOk result (λ product. (t : List Letter) → coefficient_of (R.value ring.now) product t
-        ≡ continued (λ w. sum_of (shuffle_of w u)) (numbered (R.value ring.now) sum.now) t % R.modulus ring.now) }
-    ensures in_ring { IfOk result (λ product. AllIn (R.has ring.now) product) }
+    ensures { IfOk result (IsSumOf R.zero (R.has ring.now) (R.value ring.now) (R.modulus ring.now) (continued (λ w. sum_of (shuffle_of w u)) (numbered (R.value ring.now) sum.now))) }
 {
     let other = word_sum(alloc, ring, u)?;
-    match product_sums::<ShuffleLetters, R>(alloc, ring, sum, &other) {
-        Ok(product) => Ok(product),
-        Err(ProductFault::Memory(e)) => Err(e),
-        Err(ProductFault::TooLong(_)) => unreachable!(),
-    }
-}
-
-/// The product of two words of at most 24 letters together.
-fn product_within<L: Letters, R: Ring>(
-    alloc: Global,
-    ring: &R,
-    u: Word,
-    v: Word,
-) -> Result<WordSum<R>, AllocError>
-    requires covers_u { L.alphabet.covered u ≡ true }
-    requires covers_v { L.alphabet.covered v ≡ true }
-    requires fits { length u + length v ≤ 24 }
-    ensures value { IfOk result (λ sum. (t : List Letter) → coefficient_of (R.value ring.now) sum t
-        ≡ sum_of (prod L.alphabet u v) t % R.modulus ring.now) }
-    ensures in_ring { IfOk result (λ sum. AllIn (R.has ring.now) sum) }
-{
-    match product::<L, R>(alloc, ring, u, v) {
-        Ok(sum) => Ok(sum),
-        Err(ProductFault::Memory(e)) => Err(e),
-        Err(ProductFault::TooLong(_)) => unreachable!(),
-    }
+    product_sums_within::<ShuffleLetters, R>(alloc, ring, sum, &other)
 }
 
 /// The sum of the one word.
 fn word_sum<R: Ring>(alloc: Global, ring: &R, u: Word) -> Result<WordSum<R>, AllocError>
-    ensures value { IfOk result (λ sum. (t : List Letter) → coefficient_of (R.value ring.now) sum t
-        ≡ single u t % R.modulus ring.now) }
-    ensures in_ring { IfOk result (λ sum. AllIn (R.has ring.now) sum) }
+    ensures { IfOk result (IsSumOf R.zero (R.has ring.now) (R.value ring.now) (R.modulus ring.now) (single u)) }
 {
     let mut sum = WordSum::new(alloc);
     sum.add_term(ring, u, ring.one())?;
@@ -169,19 +122,4 @@ fn minus_one<R: Ring>(ring: &R) -> R::Elem
     ensures value { R.value ring.now result ≡ R.modulus ring.now - 1 }
 {
     ring.neg(ring.one())
-}
-
-/// The word of `m` letters y.
-fn y_word(m: u32) -> Word
-    requires { m ≤ 24 }
-    ensures { result ≡ y_word_of m }
-{
-    let mut w = Word::empty();
-    for i in 0..m {
-        match w.push_front(Letter::Y) {
-            Ok(longer) => w = longer,
-            Err(_) => unreachable!(),
-        }
-    }
-    w
 }

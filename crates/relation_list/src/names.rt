@@ -7,7 +7,7 @@ use duality_map::dual;
 use word_letters::{MAX_WEIGHT, Word};
 
 /// The name of a direct relation.
-#[derive(Clone, Copy)]
+#[derive(Debug, Clone, Copy, PartialEq, Eq)]
 pub enum Direct {
     /// The shuffle of `u` and `v` less their stuffle.
     Fin { u: Word, v: Word },
@@ -18,7 +18,7 @@ pub enum Direct {
 }
 
 /// The name of a relation.
-#[derive(Clone, Copy)]
+#[derive(Debug, Clone, Copy, PartialEq, Eq)]
 pub enum RelName {
     /// A direct relation.
     Plain(Direct),

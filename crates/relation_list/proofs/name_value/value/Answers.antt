@@ -1,10 +1,17 @@
-use Rattle.std.proofs.Common.{ℕ, refl, arith}
-use Rattle.relation_list.specs.Values.{value_of}
-use Rattle.relation_list.proofs.HeldWords.{name_words}
+use Rattle.relation_list.specs.Values.{value_of, IsWordOf}
+use Rattle.word_sums.proofs.SumLemmas.{words_of_sum}
+use Rattle.relation_list.proofs.HeldWords.{after_ok}
+use Rattle.relation_list.proofs.ValueWords.{value_of-words}
 use Rattle.relation_list.proofs.name_value.value.Goals as goal
 
 pub returns-clause-words : goal.returns-clause-words
 returns-clause-words g c =
-    let m : ℕ = g.R.Ring.modulus c.args.ring.now in
-    name_words m (omega (arith, g.met.R.Ring.modulus_from c.args.ring.now)) (g.R.Ring.value c.args.ring.now) g.R.Ring.zero (g.R.Ring.has c.args.ring.now) (g.met.R.Ring.has_zero c.args.ring.now) (g.met.R.Ring.value_zero c.args.ring.now) (g.met.R.Ring.value_injective c.args.ring.now)
-    c.in_ok-sum.sum c.len.ensures.terms c.in_ok-sum.ensures.in_ring (value_of m c.args.name.now) c.in_ok-sum.ensures.value c.args.name.now c.requires (λ t. refl)
+    let ring = c.args.ring.now in
+    let r = g.met.R.Ring in
+    let m = g.R.Ring.modulus ring in
+    let n = c.args.name.now in
+    after_ok _ _
+    (λ sum made. words_of_sum g.R.Ring.zero (g.R.Ring.has ring) (g.R.Ring.value ring) m (IsWordOf n) (value_of m n) sum (r.has_zero ring) (r.value_zero ring)
+    (r.value_injective ring) made
+    (λ t some. value_of-words m n t c.requires some))
+    c.summed.result c.summed.ensures
