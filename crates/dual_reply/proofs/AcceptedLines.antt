@@ -1,5 +1,6 @@
 -- The terms that are read are those of the one accepted line.
-use Rattle.std.proofs.Common.{◌≡◌, ℕ, zero, suc, ◌<◌, ◌≤◌, Bool, true, false, ◌&&◌, cond, ltb, ⊎_elim, Some, None, List, [], ◌∷◌, ◌++◌, length, map, sum, refl, sym, ap, ◌∙◌, arith}
+use Rattle.std.proofs.Common.{◌≡◌, ℕ, zero, suc, ◌<◌, ◌≤◌, Bool, true, false, ◌&&◌, cond, ltb, ⊎_elim, Some, None, List, [], ◌∷◌, ◌++◌, length, map}
+use Rattle.std.proofs.Common.{sum, refl, sym, ap, ◌∙◌, arith}
 use Rattle.std.specs.List.{AllByRecursion}
 use Rattle.std.proofs.lemmas.Bool.{le-ltb, ltb-false}
 use Rattle.std.proofs.lemmas.List.Elements.{All-from_recursion, recursion_from_All}
@@ -9,7 +10,8 @@ use Rattle.zeta_model.specs.Words.{is_admissible, begins_with_x, ends_with_y, ha
 use Rattle.zeta_model.specs.Indices.{z_word, word_of_index}
 use Rattle.word_letters.proofs.IndexLemmas.{length-word_of_index, word_of_index-cons}
 use Rattle.dual_reply.specs.Grammar.{Term, IsIndex, IsAccepted, IsAcceptedIndex}
-use Rattle.dual_reply.specs.Reading.{signed_of, is_accepted, resume, start, terms_of}
+use Rattle.dual_reply.specs.Sums.{signed_of}
+use Rattle.dual_reply.specs.Inner.{is_accepted, resume, start, terms_of}
 use Rattle.dual_reply.specs.declared.place.Place.TheVariants.{Start}
 use Rattle.dual_reply.specs.declared.reader.Signed.{Signed}
 use Rattle.dual_reply.proofs.AcceptedWords.{is_accepted-tells, is_accepted-from}
@@ -17,7 +19,8 @@ use Rattle.dual_reply.proofs.CompleteReading.{IsShort, line_read, bare_line_read
 use Rattle.dual_reply.proofs.SoundReading.{read_sound}
 
 -- each number of a list is at most the sum
-at_most_sum : (P : ℕ → Type 0) (limit : ℕ) → ((k : ℕ) → 0 < k → k ≤ limit → P k) → (ks : List ℕ) → AllByRecursion (λ k. 0 < k) ks → sum ks ≤ limit → AllByRecursion P ks
+at_most_sum : (P : ℕ → Type 0) (limit : ℕ) → ((k : ℕ) → 0 < k → k ≤ limit → P k) → (ks : List ℕ) → AllByRecursion (λ k. 0 < k) ks → sum ks ≤ limit
+    → AllByRecursion P ks
 at_most_sum P limit f [] h l = tt
 at_most_sum P limit f (k ∷ ks) h l =
     let e = sum_by-cons (λ j. j) k ks in
@@ -35,7 +38,8 @@ short_of ks i a =
       short = at_most_sum (λ k. (0 < k) × (k < 100)) 24 (λ k l h. (l, omega arith)) ks p a.1;
     }
 
-shorts_of : (ts : List Term) → AllByRecursion (λ t. IsIndex t.index) ts → AllByRecursion (λ t. IsAcceptedIndex t.index) ts → AllByRecursion (λ t. IsShort t.index) ts
+shorts_of : (ts : List Term) → AllByRecursion (λ t. IsIndex t.index) ts → AllByRecursion (λ t. IsAcceptedIndex t.index) ts
+    → AllByRecursion (λ t. IsShort t.index) ts
 shorts_of [] i a = tt
 shorts_of (t ∷ ts) i a = (short_of t.index i.0 a.0, shorts_of ts i.1 a.1)
 
@@ -57,7 +61,8 @@ index_of_test (k ∷ ks) e =
     let p = recursion_from_All (λ k. 0 < k) (k ∷ ks) a.positive in
     ((omega arith, at_most_sum (λ k. (0 < k) × (k < 1000)) 24 (λ k l h. (l, omega arith)) (k ∷ ks) p a.light), (a.first, a.light))
 
-tests_tell : (ts : List Term) → AllByRecursion (λ t. is_accepted t.index ≡ true) ts → AllByRecursion (λ t. IsIndex t.index) ts × AllByRecursion (λ t. IsAcceptedIndex t.index) ts
+tests_tell : (ts : List Term) → AllByRecursion (λ t. is_accepted t.index ≡ true) ts
+    → AllByRecursion (λ t. IsIndex t.index) ts × AllByRecursion (λ t. IsAcceptedIndex t.index) ts
 tests_tell [] h = (tt, tt)
 tests_tell (t ∷ ts) h = let a = index_of_test t.index h.0 in let r = tests_tell ts h.1 in ((a.0, r.0), (a.1, r.1))
 
@@ -112,7 +117,8 @@ accepted_is_open (k ∷ ks) i a =
     let d : ends_with_y (word_of_index (k ∷ ks)) ≡ true = ap ends_with_y e ∙ ends_with_z k (word_of_index ks) p.0 (has_index-word_of_index ks p.1) in
     record { admissible = (λ i. b i && d i); light = omega (arith, length-word_of_index (k ∷ ks), a.1) }
 
-pub accepted_are_open : (ts : List Term) → AllByRecursion (λ t. IsIndex t.index) ts → AllByRecursion (λ t. IsAcceptedIndex t.index) ts → AllByRecursion (λ s. IsOpen s.word) (map signed_of ts)
+pub accepted_are_open : (ts : List Term) → AllByRecursion (λ t. IsIndex t.index) ts → AllByRecursion (λ t. IsAcceptedIndex t.index) ts
+    → AllByRecursion (λ s. IsOpen s.word) (map signed_of ts)
 accepted_are_open [] i a = tt
 accepted_are_open (t ∷ ts) i a = (accepted_is_open t.index i.0 a.0, accepted_are_open ts i.1 a.1)
 

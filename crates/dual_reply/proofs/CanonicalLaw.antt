@@ -7,19 +7,19 @@ use Rattle.zeta_model.specs.Words.{is_admissible, begins_with_x, ends_with_y}
 use Rattle.zeta_model.specs.Duality.{representative_of}
 use Rattle.zeta_model.specs.Modular.{Same}
 use Rattle.dual_reply.specs.Grammar.{Term, IsAccepted}
-use Rattle.dual_reply.specs.Reading.{signed_of, terms_of}
-use Rattle.dual_reply.specs.Sums.{folded_sum}
-use Rattle.dual_reply.specs.Listing.{Entry, listing_of, entry_of}
+use Rattle.dual_reply.specs.Sums.{signed_of, folded_sum}
+use Rattle.dual_reply.specs.Inner.{terms_of, entries_of, folded_entry}
+use Rattle.dual_reply.specs.Listing.{Entry}
 use Rattle.word_sums.specs.Terms.{coefficient_of}
-use Rattle.dual_reply.specs.Reply.{text_of, refusal, reply_to, reply_of}
-use Rattle.dual_reply.specs.Canonical.{IsCanonical, IsExact, IsFolded, IsTold}
+use Rattle.dual_reply.specs.Reply.{sum_text, refusal, reply_to, reply_of}
+use Rattle.dual_reply.specs.Canonical.{IsCanonical, IsExact, IsFolded, IsTold, TellsSums}
 use Rattle.dual_reply.specs.declared.reader.Signed.{Signed}
 use Rattle.dual_reply.proofs.AcceptedWords.{and-true}
 use Rattle.dual_reply.proofs.AcceptedLines.{IsOpen, terms_of-accepted, accepted-terms_of, terms_are_open}
 use Rattle.dual_reply.proofs.DualityLemmas.{is_admissible-representative_of, length-representative_of}
 use Rattle.dual_reply.proofs.FoldLemmas.{corrections, scaled, folded_sums_same, difference_corrected}
-use Rattle.dual_reply.proofs.ListingLaws.{number_of-bounds, with_terms_all, listing_of-IsListing, listing_unique, listing_is}
-use Rattle.dual_reply.proofs.TextLaws.{IsPrinted, text_of-injective, text_of-refusal}
+use Rattle.dual_reply.proofs.ListingLaws.{sign_number-bounds, with_terms_all, entries_of-IsListing, listing_unique, listing_is}
+use Rattle.dual_reply.proofs.TextLaws.{IsPrinted, sum_text-injective, sum_text-refusal}
 
 abbrev AreOpen : List Signed → Type 0
 AreOpen ss = AllByRecursion (λ s. IsOpen s.word) ss
@@ -41,14 +41,15 @@ corrections_admissible m [] h = tt
 corrections_admissible m (s ∷ ss) h = ((h.0.admissible, h.0.light), corrections_admissible m ss h.1)
 
 module _ (m : ℕ) (low : 3 ≤ m) (high : m < 2 ^ 63) where
-  printed_entries : (ss : List Signed) → AreOpen ss → AllByRecursion (λ s. IsPrinted (entry_of m s)) ss
+  printed_entries : (ss : List Signed) → AreOpen ss → AllByRecursion (λ s. IsPrinted (folded_entry m s)) ss
   printed_entries [] h = tt
   printed_entries (s ∷ ss) h =
-      let b = number_of-bounds m s.negative low in
+      let b = sign_number-bounds m s.negative low in
       let w = s.word in (
         record {
           residue = omega (arith, b.1);
-          ends = (and-true (begins_with_x (representative_of w)) (ends_with_y (representative_of w)) (is_admissible-representative_of w ∙ h.0.admissible)).1;
+          ends = (and-true (begins_with_x (representative_of w)) (ends_with_y (representative_of w)) (is_admissible-representative_of w
+              ∙ h.0.admissible)).1;
           light = omega (arith, length-representative_of w, h.0.light);
         },
         printed_entries ss h.1,
@@ -57,22 +58,23 @@ module _ (m : ℕ) (low : 3 ≤ m) (high : m < 2 ^ 63) where
   printed_sum : (e f : Entry) (s : ℕ) → IsPrinted e → IsPrinted f → s ≡ (f.1 + e.1) % m → (s ≡ 0 → ⊥) → IsPrinted (f.0, s)
   printed_sum e f s p q r n = record { residue = omega (arith, mod_below (f.1 + e.1) m (omega arith)); ends = q.ends; light = q.light }
 
-  printed : (ss : List Signed) → AreOpen ss → AllByRecursion IsPrinted (listing_of m ss)
-  unfolding listing_of
+  printed : (ss : List Signed) → AreOpen ss → AllByRecursion IsPrinted (entries_of m ss)
+  unfolding entries_of
   printed ss h = with_terms_all m low IsPrinted printed_sum [] ss tt (printed_entries ss h)
 
-  reply_of-accepted : (terms : List Term) (line : List ℕ) → IsAccepted terms line → reply_of m line ≡ text_of (listing_of m (map signed_of terms))
+  reply_of-accepted : (terms : List Term) (line : List ℕ) → IsAccepted terms line → reply_of m line ≡ sum_text (entries_of m (map signed_of terms))
   reply_of-accepted terms line a = ap (reply_to m) (terms_of-accepted terms line a)
 
-  listings_same : (ss ts : List Signed) → ((w : List Letter) → Same m (folded_sum m ss w) (folded_sum m ts w)) → listing_of m ss ≡ listing_of m ts
+  listings_same : (ss ts : List Signed) → ((w : List Letter) → Same m (folded_sum m ss w) (folded_sum m ts w)) → entries_of m ss ≡ entries_of m ts
   listings_same ss ts h =
-      let i = listing_of-IsListing m low ss in
-      let j = listing_of-IsListing m low ts in
-      listing_unique m low (listing_of m ss) (listing_of m ts) i.increasing j.increasing i.residues j.residues (λ w. i.coefficients w ∙ h w ∙ sym (j.coefficients w))
+      let i = entries_of-IsListing m low ss in
+      let j = entries_of-IsListing m low ts in
+      listing_unique m low (entries_of m ss) (entries_of m ts) i.increasing j.increasing i.residues j.residues (λ w. i.coefficients w ∙ h w
+      ∙ sym (j.coefficients w))
 
-  folded_same : (ss ts : List Signed) → listing_of m ss ≡ listing_of m ts → (w : List Letter) → Same m (folded_sum m ss w) (folded_sum m ts w)
+  folded_same : (ss ts : List Signed) → entries_of m ss ≡ entries_of m ts → (w : List Letter) → Same m (folded_sum m ss w) (folded_sum m ts w)
   folded_same ss ts e w =
-      sym ((listing_of-IsListing m low ss).coefficients w) ∙ ap (λ es. coefficient_of (λ a. a) es w % m) e ∙ (listing_of-IsListing m low ts).coefficients w
+      sym ((entries_of-IsListing m low ss).coefficients w) ∙ ap (λ es. coefficient_of (λ a. a) es w % m) e ∙ (entries_of-IsListing m low ts).coefficients w
 
   canonical : IsCanonical m
   canonical l1 l2 t1 t2 a1 a2 =
@@ -83,16 +85,18 @@ module _ (m : ℕ) (low : 3 ≤ m) (high : m < 2 ^ 63) where
       let r1 = reply_of-accepted t1 l1 a1 in
       let r2 = reply_of-accepted t2 l2 a2 in (
         λ e.
-            let same = folded_same ss ts (text_of-injective (listing_of m ss) (listing_of m ts) (printed ss o1) (printed ts o2) (sym r1 ∙ e ∙ r2)) in (
+            let same = folded_same ss ts (sum_text-injective (entries_of m ss) (entries_of m ts) (printed ss o1) (printed ts o2) (sym r1 ∙ e ∙ r2)) in (
               corrections m ss ++ scaled (m - 1) (corrections m ts),
-              append_admissible (corrections m ss) (scaled (m - 1) (corrections m ts)) (corrections_admissible m ss o1) (scaled_admissible (m - 1) (corrections m ts) (corrections_admissible m ts o2)),
+              append_admissible (corrections m ss) (scaled (m - 1) (corrections m ts)) (corrections_admissible m ss o1)
+                  (scaled_admissible (m - 1) (corrections m ts) (corrections_admissible m ts o2)),
               difference_corrected m ss ts (omega arith) same,
             ),
-        λ d. r1 ∙ ap text_of (listings_same ss ts (λ r. folded_sums_same r m ss ts d.0 (omega arith) d.2)) ∙ sym r2,
+        λ d. r1 ∙ ap sum_text (listings_same ss ts (λ r. folded_sums_same r m ss ts d.0 (omega arith) d.2)) ∙ sym r2,
       )
 
   not_refused : (line : List ℕ) (o : Option (List Signed)) → terms_of line ≡ o → reply_to m o ≡ refusal → (terms : List Term) → IsAccepted terms line → ⊥
-  not_refused line o e r terms a = text_of-refusal (listing_of m (map signed_of terms)) (ap (reply_to m) (sym (sym e ∙ terms_of-accepted terms line a)) ∙ r)
+  not_refused line o e r terms a = sum_text-refusal (entries_of m (map signed_of terms)) (ap (reply_to m) (sym (sym e ∙ terms_of-accepted terms line a))
+      ∙ r)
 
   refused : (line : List ℕ) (o : Option (List Signed)) → terms_of line ≡ o → ((terms : List Term) → IsAccepted terms line → ⊥) → reply_to m o ≡ refusal
   refused line None e n = refl
@@ -102,7 +106,7 @@ module _ (m : ℕ) (low : 3 ≤ m) (high : m < 2 ^ 63) where
   exact line = (not_refused line (terms_of line) refl, refused line (terms_of line) refl)
 
   folded : IsFolded m
-  folded line terms a = (listing_of m (map signed_of terms), listing_of-IsListing m low (map signed_of terms), reply_of-accepted terms line a)
+  folded line terms a = (entries_of m (map signed_of terms), entries_of-IsListing m low (map signed_of terms), reply_of-accepted terms line a)
 
   told : IsTold m
   told l1 l2 t1 t2 e1 e2 a1 a2 i1 i2 e =
@@ -110,16 +114,8 @@ module _ (m : ℕ) (low : 3 ≤ m) (high : m < 2 ^ 63) where
       let ts = map signed_of t2 in
       let p = listing_is m low ss e1 i1 in
       let q = listing_is m low ts e2 i2 in
-      p ∙ text_of-injective (listing_of m ss) (listing_of m ts) (printed ss (terms_are_open t1 l1 a1)) (printed ts (terms_are_open t2 l2 a2)) (ap text_of (sym p) ∙ e ∙ ap text_of q) ∙ sym q
+      p ∙ sum_text-injective (entries_of m ss) (entries_of m ts) (printed ss (terms_are_open t1 l1 a1)) (printed ts (terms_are_open t2 l2 a2))
+      (ap sum_text (sym p) ∙ e ∙ ap sum_text q) ∙ sym q
 
-pub reply_canonical : (m : ℕ) → 3 ≤ m → m < 2 ^ 63 → IsCanonical m
-reply_canonical m low high = canonical m low high
-
-pub reply_exact : (m : ℕ) → 3 ≤ m → m < 2 ^ 63 → IsExact m
-reply_exact m low high = exact m low high
-
-pub reply_folded : (m : ℕ) → 3 ≤ m → m < 2 ^ 63 → IsFolded m
-reply_folded m low high = folded m low high
-
-pub reply_told : (m : ℕ) → 3 ≤ m → m < 2 ^ 63 → IsTold m
-reply_told m low high = told m low high
+pub tells_sums : (m : ℕ) → 3 ≤ m → m < 2 ^ 63 → TellsSums m
+tells_sums m low high = record { canonical = canonical m low high; exact = exact m low high; folded = folded m low high; told = told m low high }

@@ -5,11 +5,12 @@ use Rattle.zeta_model.specs.Modular.{Same}
 use Rattle.zeta_model.proofs.ModularLemmas.{same-add, same-add_right, same-mul_left, same-multiple}
 use Rattle.zeta_model.specs.Sums.{single, difference}
 use Rattle.zeta_model.proofs.SumLemmas.{continued-append}
-use Rattle.dual_reply.specs.Sums.{number_of, word_sum, folded_sum, dual_sum}
+use Rattle.dual_reply.specs.Sums.{sign_number, word_sum, folded_sum, dual_sum}
 use Rattle.dual_reply.specs.declared.reader.Signed.{Signed}
 use Rattle.zeta_model.proofs.DualityLaws.{representative_of-dual_of}
 use Rattle.duality_map.proofs.DualLetters.{representative_cases}
-use Rattle.dual_reply.proofs.SumLemmas.{W, single-same, single-other, word_cases, folded_at, by_kind, folded_at-none, folded_at-self, folded_at-pair, single-representative_of}
+use Rattle.dual_reply.proofs.SumLemmas.{W, single-same, single-other, word_cases, folded_at, by_kind, folded_at-none, folded_at-self, folded_at-pair}
+use Rattle.dual_reply.proofs.SumLemmas.{single-representative_of}
 
 times_one_more : (k x : ℕ) → 1 * x + k * x ≡ (k + 1) * x
 times_one_more k x = omega arith
@@ -33,7 +34,8 @@ module _ (r : W) where
   folded_at-same m f g h = by_kind r (Same m (folded_at f r) (folded_at g r))
       (λ n. ap (λ k. k % m) (folded_at-none f r n ∙ sym (folded_at-none g r n)))
       (λ p d. ap (λ k. k % m) (folded_at-self f r p d) ∙ h r ∙ ap (λ k. k % m) (sym (folded_at-self g r p d)))
-      (λ p d. ap (λ k. k % m) (folded_at-pair f r p d) ∙ same-add m (f r) (g r) (f (dual_of r)) (g (dual_of r)) (h r) (h (dual_of r)) ∙ ap (λ k. k % m) (sym (folded_at-pair g r p d)))
+      (λ p d. ap (λ k. k % m) (folded_at-pair f r p d) ∙ same-add m (f r) (g r) (f (dual_of r)) (g (dual_of r)) (h r) (h (dual_of r))
+      ∙ ap (λ k. k % m) (sym (folded_at-pair g r p d)))
 
   -- folding the sum of some words is replacing each by its representative
   pub folded_sum-is : (m : ℕ) (ts : List Signed) → folded_sum m ts r ≡ folded_at (word_sum m ts) r
@@ -42,7 +44,7 @@ module _ (r : W) where
       (λ p d. sym (folded_at-self (λ w. 0) r p d))
       (λ p d. sym (folded_at-pair (λ w. 0) r p d ∙ (let e : 0 + 0 ≡ 0 = refl in e)))
   folded_sum-is m (t ∷ ts) =
-      let n = number_of m t.negative in
+      let n = sign_number m t.negative in
       let one : 1 * folded_at (word_sum m ts) r ≡ folded_at (word_sum m ts) r = omega arith in
       let whole : (w : W) → n * single t.word w + 1 * word_sum m ts w ≡ word_sum m (t ∷ ts) w = λ w. omega arith in
       (λ i. n * single-representative_of t.word r i + folded_sum-is m ts i)
@@ -59,11 +61,14 @@ module _ (r : W) where
       let inner = λ (w : W). single u w + (m - 1) * single (dual_of u) w in
       let one : (w : W) → 1 * single u w + (m - 1) * single (dual_of u) w ≡ inner w = λ w. omega arith in
       let unit : (w : W) → c.0 * inner w + 1 * dual_sum m cs w ≡ dual_sum m (c ∷ cs) w = λ w. omega arith in
-      let a : folded_at inner r ≡ 1 * folded_at (single u) r + (m - 1) * folded_at (single (dual_of u)) r = (λ i. folded_at (λ w. sym (one w) i) r) ∙ folded_at-plus (single u) (single (dual_of u)) 1 (m - 1) in
+      let a : folded_at inner r ≡ 1 * folded_at (single u) r + (m - 1) * folded_at (single (dual_of u)) r =
+      (λ i. folded_at (λ w. sym (one w) i) r) ∙ folded_at-plus (single u) (single (dual_of u)) 1 (m - 1) in
       let b : folded_at (single (dual_of u)) r ≡ x = sym (single-representative_of (dual_of u) r) ∙ ap (λ v. single v r) (representative_of-dual_of u) in
-      let d : 1 * folded_at (single u) r + (m - 1) * folded_at (single (dual_of u)) r ≡ 1 * x + (m - 1) * x = λ i. 1 * sym (single-representative_of u r) i + (m - 1) * b i in
+      let d : 1 * folded_at (single u) r + (m - 1) * folded_at (single (dual_of u)) r ≡ 1 * x + (m - 1) * x =
+      λ i. 1 * sym (single-representative_of u r) i + (m - 1) * b i in
       let e : 1 * x + (m - 1) * x ≡ m * x = times m x h in
-      let f : folded_at (dual_sum m (c ∷ cs)) r ≡ c.0 * folded_at inner r + 1 * folded_at (dual_sum m cs) r = (λ i. folded_at (λ w. sym (unit w) i) r) ∙ folded_at-plus inner (dual_sum m cs) c.0 1 in
+      let f : folded_at (dual_sum m (c ∷ cs)) r ≡ c.0 * folded_at inner r + 1 * folded_at (dual_sum m cs) r =
+      (λ i. folded_at (λ w. sym (unit w) i) r) ∙ folded_at-plus inner (dual_sum m cs) c.0 1 in
       let g : c.0 * folded_at inner r ≡ c.0 * (m * x) = ap (λ k. c.0 * k) (a ∙ d ∙ e) in
       let k : c.0 * (m * x) + 1 * folded_at (dual_sum m cs) r ≡ folded_at (dual_sum m cs) r + m * (c.0 * x) = omega arith in
       ap (λ n. n % m) (f ∙ (λ i. g i + 1 * folded_at (dual_sum m cs) r) ∙ k)
@@ -71,16 +76,20 @@ module _ (r : W) where
       ∙ folded_at-dual_sum m cs h
 
   -- where two sums differ by such a combination they fold to the same
-  pub folded_sums_same : (m : ℕ) (ss ts : List Signed) (cs : List (ℕ × W)) → 0 < m → ((w : W) → difference m (word_sum m ss) (word_sum m ts) w % m ≡ dual_sum m cs w % m) → Same m (folded_sum m ss r) (folded_sum m ts r)
+  pub folded_sums_same : (m : ℕ) (ss ts : List Signed) (cs : List (ℕ × W)) → 0 < m
+      → ((w : W) → difference m (word_sum m ss) (word_sum m ts) w % m ≡ dual_sum m cs w % m) → Same m (folded_sum m ss r) (folded_sum m ts r)
   folded_sums_same m ss ts cs p h =
       let f = word_sum m ss in
       let g = word_sum m ts in
       let x = folded_sum m ss r in
       let y = folded_sum m ts r in
       let one : (w : W) → 1 * f w + (m - 1) * g w ≡ difference m f g w = λ w. omega arith in
-      let a : folded_at (difference m f g) r ≡ 1 * folded_at f r + (m - 1) * folded_at g r = (λ i. folded_at (λ w. sym (one w) i) r) ∙ folded_at-plus f g 1 (m - 1) in
-      let b : 1 * folded_at f r + (m - 1) * folded_at g r ≡ 1 * x + (m - 1) * y = λ i. 1 * sym (folded_sum-is m ss) i + (m - 1) * sym (folded_sum-is m ts) i in
-      let z : Same m (1 * x + (m - 1) * y) 0 = ap (λ k. k % m) (sym (a ∙ b)) ∙ folded_at-same m (difference m f g) (dual_sum m cs) h ∙ folded_at-dual_sum m cs p in
+      let a : folded_at (difference m f g) r ≡ 1 * folded_at f r + (m - 1) * folded_at g r =
+      (λ i. folded_at (λ w. sym (one w) i) r) ∙ folded_at-plus f g 1 (m - 1) in
+      let b : 1 * folded_at f r + (m - 1) * folded_at g r ≡ 1 * x + (m - 1) * y =
+      λ i. 1 * sym (folded_sum-is m ss) i + (m - 1) * sym (folded_sum-is m ts) i in
+      let z : Same m (1 * x + (m - 1) * y) 0 =
+      ap (λ k. k % m) (sym (a ∙ b)) ∙ folded_at-same m (difference m f g) (dual_sum m cs) h ∙ folded_at-dual_sum m cs p in
       let t : 1 * y + (m - 1) * y ≡ m * y = times m y p in
       let e : (1 * x + (m - 1) * y) + y ≡ x + m * y = omega arith in
       let k : 0 + y ≡ y = omega arith in
@@ -89,7 +98,7 @@ module _ (r : W) where
 -- what folding changes in a sum, as a combination of sums u - dual u
 abbrev pub corrections : ℕ → List Signed → List (ℕ × W)
 corrections m [] = []
-corrections m (t ∷ ts) = (number_of m t.negative * (1 - single (representative_of t.word) t.word), t.word) ∷ corrections m ts
+corrections m (t ∷ ts) = (sign_number m t.negative * (1 - single (representative_of t.word) t.word), t.word) ∷ corrections m ts
 
 abbrev pub scaled : ℕ → List (ℕ × W) → List (ℕ × W)
 scaled k [] = []
@@ -102,7 +111,9 @@ dual_sum-scaled m k (c ∷ cs) w =
     let e : k * c.0 * x + k * dual_sum m cs w ≡ k * (c.0 * x + dual_sum m cs w) = omega arith in
     (λ i. k * c.0 * x + dual_sum-scaled m k cs w i) ∙ e
 
-term_corrected : (m n : ℕ) (u w : W) → 0 < m → Same m (n * single u w) (n * single (representative_of u) w + n * (1 - single (representative_of u) u) * (single u w + (m - 1) * single (dual_of u) w))
+term_corrected : (m n : ℕ) (u w : W) → 0 < m
+    → Same m (n * single u w) (n * single (representative_of u) w + n * (1 - single (representative_of u) u) *
+    (single u w + (m - 1) * single (dual_of u) w))
 term_corrected m n u w h =
     let x = single u w in
     let y = single (dual_of u) w in
@@ -123,7 +134,7 @@ term_corrected m n u w h =
 word_sum_corrected : (m : ℕ) (ts : List Signed) (w : W) → 0 < m → Same m (word_sum m ts w) (folded_sum m ts w + dual_sum m (corrections m ts) w)
 word_sum_corrected m [] w h = refl
 word_sum_corrected m (t ∷ ts) w h =
-    let n = number_of m t.negative in
+    let n = sign_number m t.negative in
     let a = n * single t.word w in
     let b = n * single (representative_of t.word) w in
     let c = n * (1 - single (representative_of t.word) t.word) * (single t.word w + (m - 1) * single (dual_of t.word) w) in
@@ -133,7 +144,8 @@ word_sum_corrected m (t ∷ ts) w h =
     same-add m a (b + c) (word_sum m ts w) (f + d) (term_corrected m n t.word w h) (word_sum_corrected m ts w h) ∙ ap (λ k. k % m) e
 
 -- two sums that fold to the same differ by a combination of sums u - dual u
-pub difference_corrected : (m : ℕ) (ss ts : List Signed) → 0 < m → ((w : W) → Same m (folded_sum m ss w) (folded_sum m ts w)) → (w : W) → Same m (difference m (word_sum m ss) (word_sum m ts) w) (dual_sum m (corrections m ss ++ scaled (m - 1) (corrections m ts)) w)
+pub difference_corrected : (m : ℕ) (ss ts : List Signed) → 0 < m → ((w : W) → Same m (folded_sum m ss w) (folded_sum m ts w)) → (w : W)
+    → Same m (difference m (word_sum m ss) (word_sum m ts) w) (dual_sum m (corrections m ss ++ scaled (m - 1) (corrections m ts)) w)
 difference_corrected m ss ts h same w =
     let f = folded_sum m ss w in
     let g = folded_sum m ts w in
@@ -148,4 +160,5 @@ difference_corrected m ss ts h same w =
     same-add m s (g + d) ((m - 1) * t) ((m - 1) * (g + e)) p q
     ∙ ap (λ n. n % m) z
     ∙ same-multiple m (d + (m - 1) * e) g
-    ∙ ap (λ n. n % m) (sym (continued-append (λ u. difference m (single u) (single (dual_of u))) (corrections m ss) (scaled (m - 1) (corrections m ts)) w ∙ (λ i. d + dual_sum-scaled m (m - 1) (corrections m ts) w i)))
+    ∙ ap (λ n. n % m) (sym (continued-append (λ u. difference m (single u) (single (dual_of u))) (corrections m ss) (scaled (m - 1) (corrections m ts)) w
+    ∙ (λ i. d + dual_sum-scaled m (m - 1) (corrections m ts) w i)))

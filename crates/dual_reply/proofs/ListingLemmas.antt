@@ -1,5 +1,6 @@
 -- The list of entries: what adding an entry keeps, and that its coefficients determine it.
-use Rattle.std.proofs.Common.{◌≡◌, ℕ, ◌+◌, ◌*◌, ◌%◌, ◌<◌, Bool, true, false, cond, eqb, List, [], ◌∷◌, length, Ordering, Less, Equal, Greater, is_eq, refl, sym, ap, ◌∙◌, arith}
+use Rattle.std.proofs.Common.{◌≡◌, ℕ, ◌+◌, ◌*◌, ◌%◌, ◌<◌, Bool, true, false, cond, eqb, List, [], ◌∷◌, length, Ordering, Less, Equal, Greater, is_eq}
+use Rattle.std.proofs.Common.{refl, sym, ap, ◌∙◌, arith}
 use Rattle.std.specs.List.{AllByRecursion}
 use Rattle.std.specs.List.Sorted.{IsStrictlySortedBy}
 use Rattle.std.specs.Cmp.{IsTotalOrder}
@@ -14,7 +15,8 @@ use Rattle.word_letters.specs.Order.{word_cmp_total, same_words}
 use Rattle.zeta_model.specs.Sums.{single}
 use Rattle.std.specs.Map.{keys_of}
 use Rattle.word_sums.specs.Terms.{coefficient_of}
-use Rattle.dual_reply.specs.Listing.{Entry, listing_cmp, placed, with_entry}
+use Rattle.dual_reply.specs.Listing.{Entry, listing_cmp}
+use Rattle.dual_reply.specs.Inner.{placed, with_entry}
 
 abbrev W : Type 0
 W = List Letter
@@ -56,7 +58,8 @@ module _ (m : ℕ) (e : Entry) where
   joined_behind u s true f fs h = h.1
   joined_behind u s false f fs h = h
 
-  placed_behind : (u : W) (o : Ordering) (f : Entry) (fs longer : List Entry) → listing_cmp u e.0 ≡ Less → IsBehind u (f ∷ fs) → IsBehind u longer → IsBehind u (placed o m e f fs longer)
+  placed_behind : (u : W) (o : Ordering) (f : Entry) (fs longer : List Entry) → listing_cmp u e.0 ≡ Less → IsBehind u (f ∷ fs) → IsBehind u longer
+      → IsBehind u (placed o m e f fs longer)
   placed_behind u Less f fs longer l h k = (l, h)
   placed_behind u Equal f fs longer l h k = joined_behind u ((f.1 + e.1) % m) (eqb ((f.1 + e.1) % m) 0) f fs h
   placed_behind u Greater f fs longer l h k = (h.0, k)
@@ -70,7 +73,8 @@ module _ (m : ℕ) (e : Entry) where
   joined_increasing s true f fs h = h.1
   joined_increasing s false f fs h = h
 
-  placed_increasing : (o : Ordering) (f : Entry) (fs longer : List Entry) → o ≡ listing_cmp e.0 f.0 → IsIncreasing (f ∷ fs) → IsIncreasing longer → (listing_cmp f.0 e.0 ≡ Less → IsBehind f.0 longer) → IsIncreasing (placed o m e f fs longer)
+  placed_increasing : (o : Ordering) (f : Entry) (fs longer : List Entry) → o ≡ listing_cmp e.0 f.0 → IsIncreasing (f ∷ fs) → IsIncreasing longer
+      → (listing_cmp f.0 e.0 ≡ Less → IsBehind f.0 longer) → IsIncreasing (placed o m e f fs longer)
   unfolding IsStrictlySortedBy
   placed_increasing Less f fs longer q h k b = ((sym q, behind_behind e.0 f.0 fs (sym q) h.0), h)
   placed_increasing Equal f fs longer q h k b = joined_increasing ((f.1 + e.1) % m) (eqb ((f.1 + e.1) % m) 0) f fs h
@@ -82,13 +86,15 @@ module _ (m : ℕ) (e : Entry) where
   with_entry_increasing (f ∷ fs) h =
       placed_increasing (listing_cmp e.0 f.0) f fs (with_entry m e fs) refl h (with_entry_increasing fs h.1) (λ l. with_entry_behind f.0 fs l h.0)
 
-  -- what holds of the entry, of the others and of each that is joined holds of all
+  -- what holds of the entry, of the others and of each that is put together holds of all
   module _ (P : Entry → Type 0) (p : P e) (sum : (f : Entry) (s : ℕ) → P f → s ≡ (f.1 + e.1) % m → (s ≡ 0 → ⊥) → P (f.0, s)) where
-    joined_all : (f : Entry) (fs : List Entry) (s : ℕ) (b : Bool) → s ≡ (f.1 + e.1) % m → eqb s 0 ≡ b → AllByRecursion P (f ∷ fs) → AllByRecursion P (cond b fs ((f.0, s) ∷ fs))
+    joined_all : (f : Entry) (fs : List Entry) (s : ℕ) (b : Bool) → s ≡ (f.1 + e.1) % m → eqb s 0 ≡ b → AllByRecursion P (f ∷ fs)
+        → AllByRecursion P (cond b fs ((f.0, s) ∷ fs))
     joined_all f fs s true q t h = h.1
     joined_all f fs s false q t h = (sum f s h.0 q (eqb-false s 0 t), h.1)
 
-    placed_all : (o : Ordering) (f : Entry) (fs longer : List Entry) → AllByRecursion P (f ∷ fs) → AllByRecursion P longer → AllByRecursion P (placed o m e f fs longer)
+    placed_all : (o : Ordering) (f : Entry) (fs longer : List Entry) → AllByRecursion P (f ∷ fs) → AllByRecursion P longer
+        → AllByRecursion P (placed o m e f fs longer)
     placed_all Less f fs longer h k = (p, h)
     placed_all Equal f fs longer h k = joined_all f fs ((f.1 + e.1) % m) (eqb ((f.1 + e.1) % m) 0) refl refl h
     placed_all Greater f fs longer h k = (h.0, k)
@@ -97,27 +103,34 @@ module _ (m : ℕ) (e : Entry) where
     with_entry_all [] h = (p, tt)
     with_entry_all (f ∷ fs) h = placed_all (listing_cmp e.0 f.0) f fs (with_entry m e fs) h (with_entry_all fs h.1)
 
-  joined_at : (w : W) (f : Entry) (fs : List Entry) (s : ℕ) (b : Bool) → eqb s 0 ≡ b → coefficient_of (λ a. a) (cond b fs ((f.0, s) ∷ fs)) w ≡ s * single f.0 w + coefficient_of (λ a. a) fs w
+  joined_at : (w : W) (f : Entry) (fs : List Entry) (s : ℕ) (b : Bool) → eqb s 0 ≡ b
+      → coefficient_of (λ a. a) (cond b fs ((f.0, s) ∷ fs)) w ≡ s * single f.0 w + coefficient_of (λ a. a) fs w
   joined_at w f fs s true t =
       let z : s ≡ 0 = eqb-true s 0 t in
       let q : coefficient_of (λ a. a) fs w ≡ 0 * single f.0 w + coefficient_of (λ a. a) fs w = omega arith in
       q ∙ ap (λ n. n * single f.0 w + coefficient_of (λ a. a) fs w) (sym z)
   joined_at w f fs s false t = refl
 
-  placed_at : (w : W) (o : Ordering) (f : Entry) (fs longer : List Entry) → o ≡ listing_cmp e.0 f.0 → Same m (coefficient_of (λ a. a) longer w) (e.1 * single e.0 w + coefficient_of (λ a. a) fs w) → Same m (coefficient_of (λ a. a) (placed o m e f fs longer) w) (e.1 * single e.0 w + coefficient_of (λ a. a) (f ∷ fs) w)
+  placed_at : (w : W) (o : Ordering) (f : Entry) (fs longer : List Entry) → o ≡ listing_cmp e.0 f.0
+      → Same m (coefficient_of (λ a. a) longer w) (e.1 * single e.0 w + coefficient_of (λ a. a) fs w)
+      → Same m (coefficient_of (λ a. a) (placed o m e f fs longer) w) (e.1 * single e.0 w + coefficient_of (λ a. a) (f ∷ fs) w)
   placed_at w Less f fs longer q h = refl
   placed_at w Equal f fs longer q h =
       let s = (f.1 + e.1) % m in
       let x = single f.0 w in
       let y : single e.0 w ≡ x = ap (λ v. single v w) (listing_same e.0 f.0 (sym q)) in
-      let a : Same m (s * x + coefficient_of (λ a. a) fs w) ((f.1 + e.1) * x + coefficient_of (λ a. a) fs w) = same-add_right m (s * x) ((f.1 + e.1) * x) (coefficient_of (λ a. a) fs w) (same-mul_right m s (f.1 + e.1) x (same-mod m (f.1 + e.1))) in
+      let a : Same m (s * x + coefficient_of (λ a. a) fs w) ((f.1 + e.1) * x + coefficient_of (λ a. a) fs w) =
+      same-add_right m (s * x) ((f.1 + e.1) * x) (coefficient_of (λ a. a) fs w) (same-mul_right m s (f.1 + e.1) x (same-mod m (f.1 + e.1))) in
       let b : (f.1 + e.1) * x + coefficient_of (λ a. a) fs w ≡ e.1 * x + (f.1 * x + coefficient_of (λ a. a) fs w) = omega arith in
-      ap (λ n. n % m) (joined_at w f fs s (eqb s 0) refl) ∙ a ∙ ap (λ n. n % m) b ∙ ap (λ n. (e.1 * n + (f.1 * x + coefficient_of (λ a. a) fs w)) % m) (sym y)
+      ap (λ n. n % m) (joined_at w f fs s (eqb s 0) refl) ∙ a ∙ ap (λ n. n % m) b
+      ∙ ap (λ n. (e.1 * n + (f.1 * x + coefficient_of (λ a. a) fs w)) % m) (sym y)
   placed_at w Greater f fs longer q h =
       let a = same-add_left m (coefficient_of (λ a. a) longer w) (e.1 * single e.0 w + coefficient_of (λ a. a) fs w) (f.1 * single f.0 w) h in
-      let b : f.1 * single f.0 w + (e.1 * single e.0 w + coefficient_of (λ a. a) fs w) ≡ e.1 * single e.0 w + (f.1 * single f.0 w + coefficient_of (λ a. a) fs w) = omega arith in
+      let b : f.1 * single f.0 w + (e.1 * single e.0 w + coefficient_of (λ a. a) fs w)
+      ≡ e.1 * single e.0 w + (f.1 * single f.0 w + coefficient_of (λ a. a) fs w) = omega arith in
       a ∙ ap (λ n. n % m) b
 
-  pub coefficient_of-with_entry : (w : W) (es : List Entry) → Same m (coefficient_of (λ a. a) (with_entry m e es) w) (e.1 * single e.0 w + coefficient_of (λ a. a) es w)
+  pub coefficient_of-with_entry : (w : W) (es : List Entry)
+      → Same m (coefficient_of (λ a. a) (with_entry m e es) w) (e.1 * single e.0 w + coefficient_of (λ a. a) es w)
   coefficient_of-with_entry w [] = refl
   coefficient_of-with_entry w (f ∷ fs) = placed_at w (listing_cmp e.0 f.0) f fs (with_entry m e fs) refl (coefficient_of-with_entry w fs)

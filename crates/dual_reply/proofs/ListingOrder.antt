@@ -40,17 +40,20 @@ abbrev pub by_weight : (ℕ × W) → (ℕ × W) → Ordering
 by_weight x y = ordering_then (nat_cmp x.0 y.0) (word_cmp x.1 y.1)
 
 module _ {E : Type 0} where
-  neighbours : (es fs : List (W × E)) (d : W × E) → IsDistinct same_word (keys_of es) → IsPermutation es fs → IsSortedByKey (λ e. (length e.0, e.0)) by_weight fs
+  neighbours : (es fs : List (W × E)) (d : W × E) → IsDistinct same_word (keys_of es) → IsPermutation es fs
+      → IsSortedByKey (λ e. (length e.0, e.0)) by_weight fs
       → (k : ℕ) → k + 1 < length fs → listing_cmp (get_or fs k d).0 (get_or fs (k + 1) d).0 ≡ Less
   neighbours es fs d once moved up k h = less (get_or fs k d).0 (get_or fs (k + 1) d).0 (up k d (omega arith) h) differ
     where
       differ : same_word (get_or fs k d).0 (get_or fs (k + 1) d).0 ≡ false
       differ =
           (λ i. same_word (sym (get_or-map (λ e. e.0) fs k d) i) (sym (get_or-map (λ e. e.0) fs (k + 1) d) i))
-          ∙ apart_from_distinct same_word (keys_of fs) k (k + 1) d.0 (IsDistinct-IsPermutation same_word word_eq_equiv.symm (keys_of es) (keys_of fs) (IsPermutation-map (λ e. e.0) es fs moved) once)
+          ∙ apart_from_distinct same_word (keys_of fs) k (k + 1) d.0
+          (IsDistinct-IsPermutation same_word word_eq_equiv.symm (keys_of es) (keys_of fs) (IsPermutation-map (λ e. e.0) es fs moved) once)
           (omega arith) (subst (λ n. k + 1 < n) (sym (length-keys_of fs)) h)
 
-  pub increasing-by_weight : (es fs : List (W × E)) → IsDistinct same_word (keys_of es) → IsPermutation es fs → IsSortedByKey (λ e. (length e.0, e.0)) by_weight fs → IsStrictlySortedBy listing_cmp (keys_of fs)
+  pub increasing-by_weight : (es fs : List (W × E)) → IsDistinct same_word (keys_of es) → IsPermutation es fs
+      → IsSortedByKey (λ e. (length e.0, e.0)) by_weight fs → IsStrictlySortedBy listing_cmp (keys_of fs)
   increasing-by_weight es [] once moved up = sorted_from_all_adjacent listing_cmp_total [] [] (λ k h. absurd (omega (arith, h)))
   increasing-by_weight es (e ∷ fs) once moved up =
       sorted_from_all_adjacent listing_cmp_total (keys_of (e ∷ fs)) e.0 (λ k h.

@@ -1,12 +1,14 @@
 -- What is read is spelled: the terms that a reader gives are those of an accepted line.
-use Rattle.std.proofs.Common.{◌≡◌, ℕ, ◌+◌, ◌-◌, ◌*◌, ◌/◌, ◌%◌, ◌<◌, ◌≤◌, Bool, true, false, ◌&&◌, cond, eqb, leb, ltb, ◌⊎◌, inl, inr, ⊎_elim, Option, Some, List, [], ◌∷◌, ◌++◌, map, refl, sym, ap, subst, ◌∙◌, append_assoc, append-nil, arith}
+use Rattle.std.proofs.Common.{◌≡◌, ℕ, ◌+◌, ◌-◌, ◌*◌, ◌/◌, ◌%◌, ◌<◌, ◌≤◌, Bool, true, false, ◌&&◌, cond, eqb, leb, ltb, ◌⊎◌, inl, inr, ⊎_elim, Option}
+use Rattle.std.proofs.Common.{Some, List, [], ◌∷◌, ◌++◌, map, refl, sym, ap, subst, ◌∙◌, append_assoc, append-nil, arith}
 use Rattle.std.specs.Prelude.{codes, option_and_then}
 use Rattle.std.specs.List.{AllByRecursion}
 use Rattle.std.specs.Fmt.{decimal}
 use Rattle.std.proofs.lemmas.Bool.{eqb-true, leb-true, ltb-true}
 use Rattle.std.proofs.lemmas.Fmt.{decimal_digit, decimal_step}
 use Rattle.dual_reply.specs.Grammar.{Term, is_blank, more_tokens, zeta_tokens, terms_tokens, IsSpelled}
-use Rattle.dual_reply.specs.Reading.{State, signed, signed_of, is_digit, is_first_digit, is_accepted, resume, at}
+use Rattle.dual_reply.specs.Inner.{State, is_digit, is_first_digit, is_accepted, resume, at}
+use Rattle.dual_reply.specs.Sums.{signed, signed_of}
 use Rattle.dual_reply.specs.declared.place.Place.{Place}
 use Rattle.dual_reply.specs.declared.place.Place.TheVariants.{Start, AfterSign, AfterLetter, BeforeNumber, InNumber, AfterNumber, AfterZeta}
 use Rattle.dual_reply.specs.declared.reader.Signed.{Signed}
@@ -33,7 +35,8 @@ Reads (BeforeNumber negative) ks ts bytes out =
     (k : ℕ) × (js : List ℕ) × (more : List Term) × Rest ts (record { negative = negative; index = ks ++ k ∷ js } ∷ more) out
     × IsSpelled (decimal k ∷ (more_tokens js ++ terms_tokens more)) bytes
 Reads (InNumber negative n) ks ts bytes out =
-    0 < n → (digits : Bytes) × (rest : Bytes) × (k : ℕ) × (js : List ℕ) × (more : List Term) × Rest ts (record { negative = negative; index = ks ++ k ∷ js } ∷ more) out
+    0 < n → (digits : Bytes) × (rest : Bytes) × (k : ℕ) × (js : List ℕ) × (more : List Term)
+    × Rest ts (record { negative = negative; index = ks ++ k ∷ js } ∷ more) out
     × (decimal n ++ digits ≡ decimal k) × (bytes ≡ digits ++ rest) × IsSpelled (more_tokens js ++ terms_tokens more) rest
 Reads (AfterNumber negative) ks ts bytes out =
     (js : List ℕ) × (more : List Term) × Rest ts (record { negative = negative; index = ks ++ js } ∷ more) out
@@ -46,7 +49,8 @@ abbrev pub IsSound : Bytes → Type 0
 IsSound bytes = (p : Place) (ks : List ℕ) (ts out : List Signed) → resume (st p ks ts) bytes ≡ Some out → Reads p ks ts bytes out
 
 -- a test that was true, or one that was false
-by_if : {X A : Type 0} (f : X → A) (b : Bool) (x y : X) (out : A) (G : Type 0) → f (cond b x y) ≡ out → (b ≡ true → f x ≡ out → G) → (b ≡ false → f y ≡ out → G) → G
+by_if : {X A : Type 0} (f : X → A) (b : Bool) (x y : X) (out : A) (G : Type 0) → f (cond b x y) ≡ out → (b ≡ true → f x ≡ out → G)
+    → (b ≡ false → f y ≡ out → G) → G
 by_if f true x y out G e yes' no' = yes' refl e
 by_if f false x y out G e yes' no' = no' refl e
 
@@ -76,9 +80,11 @@ module _ (b : ℕ) (bytes : Bytes) (ih : IsSound bytes) where
   behind_zeta ks ts out e =
       let f = λ (o : Option Place). then (at ks ts o) in
       by_if f (eqb b 43) _ _ (Some out) (Reads AfterZeta ks ts (b ∷ bytes) out) e
-      (λ t g. let r = ih (AfterSign false) ks ts out g in (record { negative = false; index = r.0 } ∷ r.1, r.2, spelled_byte 43 b (zeta_tokens r.0 ++ terms_tokens r.1) bytes t r.3))
+      (λ t g. let r = ih (AfterSign false) ks ts out g in
+      (record { negative = false; index = r.0 } ∷ r.1, r.2, spelled_byte 43 b (zeta_tokens r.0 ++ terms_tokens r.1) bytes t r.3))
       (λ _ e. by_if f (eqb b 45) _ _ (Some out) (Reads AfterZeta ks ts (b ∷ bytes) out) e
-      (λ t g. let r = ih (AfterSign true) ks ts out g in (record { negative = true; index = r.0 } ∷ r.1, r.2, spelled_byte 45 b (zeta_tokens r.0 ++ terms_tokens r.1) bytes t r.3))
+      (λ t g. let r = ih (AfterSign true) ks ts out g in
+      (record { negative = true; index = r.0 } ∷ r.1, r.2, spelled_byte 45 b (zeta_tokens r.0 ++ terms_tokens r.1) bytes t r.3))
       (λ _ e. by_if f (is_blank b) _ _ (Some out) (Reads AfterZeta ks ts (b ∷ bytes) out) e
       (λ t g. let r = ih AfterZeta ks ts out g in (r.0, r.1, spelled_blank (terms_tokens r.0) b bytes t r.2))
       (λ _ e. cc)))
@@ -87,33 +93,53 @@ module _ (b : ℕ) (bytes : Bytes) (ih : IsSound bytes) where
   at_start ks ts out e =
       let f = λ (o : Option Place). then (at ks ts o) in
       by_if f (eqb b 122) _ _ (Some out) (Reads Start ks ts (b ∷ bytes) out) e
-      (λ t g. let r = ih (AfterLetter false) ks ts out g in (record { negative = false; index = r.0 ∷ r.1 }, r.2, r.3, inr (refl, spelled_byte 122 b (codes "(" ∷ decimal r.0 ∷ (more_tokens r.1 ++ terms_tokens r.2)) bytes t r.4)))
+      (λ t g. let r = ih (AfterLetter false) ks ts out g in (
+        record { negative = false; index = r.0 ∷ r.1 },
+        r.2,
+        r.3,
+        inr
+            (refl, spelled_byte 122 b (codes "(" ∷ decimal r.0 ∷ (more_tokens r.1 ++ terms_tokens r.2)) bytes t r.4),
+      ))
       (λ _ e. by_if f (is_blank b) _ _ (Some out) (Reads Start ks ts (b ∷ bytes) out) e
-      (λ t g. let r = ih Start ks ts out g in (r.0, r.1, r.2, ⊎_elim (λ s. inl (spelled_blank (terms_tokens (r.0 ∷ r.1)) b bytes t s)) (λ s. inr (s.0, spelled_blank (zeta_tokens r.0.index ++ terms_tokens r.1) b bytes t s.1)) r.3))
+      (λ t g. let r = ih Start ks ts out g in (
+        r.0,
+        r.1,
+        r.2,
+        ⊎_elim (λ s. inl (spelled_blank (terms_tokens (r.0 ∷ r.1)) b bytes t s))
+            (λ s. inr (s.0, spelled_blank (zeta_tokens r.0.index ++ terms_tokens r.1) b bytes t s.1)) r.3,
+      ))
       (λ _ e. by_if f (eqb b 43) _ _ (Some out) (Reads Start ks ts (b ∷ bytes) out) e
-      (λ t g. let r = ih (AfterSign false) ks ts out g in (record { negative = false; index = r.0 }, r.1, r.2, inl (spelled_byte 43 b (zeta_tokens r.0 ++ terms_tokens r.1) bytes t r.3)))
+      (λ t g. let r = ih (AfterSign false) ks ts out g in
+      (record { negative = false; index = r.0 }, r.1, r.2, inl (spelled_byte 43 b (zeta_tokens r.0 ++ terms_tokens r.1) bytes t r.3)))
       (λ _ e. by_if f (eqb b 45) _ _ (Some out) (Reads Start ks ts (b ∷ bytes) out) e
-      (λ t g. let r = ih (AfterSign true) ks ts out g in (record { negative = true; index = r.0 }, r.1, r.2, inl (spelled_byte 45 b (zeta_tokens r.0 ++ terms_tokens r.1) bytes t r.3)))
+      (λ t g. let r = ih (AfterSign true) ks ts out g in
+      (record { negative = true; index = r.0 }, r.1, r.2, inl (spelled_byte 45 b (zeta_tokens r.0 ++ terms_tokens r.1) bytes t r.3)))
       (λ _ e. cc))))
 
-  behind_sign : (negative : Bool) (ks : List ℕ) (ts out : List Signed) → resume (st (AfterSign negative) ks ts) (b ∷ bytes) ≡ Some out → Reads (AfterSign negative) ks ts (b ∷ bytes) out
+  behind_sign : (negative : Bool) (ks : List ℕ) (ts out : List Signed) → resume (st (AfterSign negative) ks ts) (b ∷ bytes) ≡ Some out
+      → Reads (AfterSign negative) ks ts (b ∷ bytes) out
   behind_sign negative ks ts out e =
       let f = λ (o : Option Place). then (at ks ts o) in
       by_if f (eqb b 122) _ _ (Some out) (Reads (AfterSign negative) ks ts (b ∷ bytes) out) e
-      (λ t g. let r = ih (AfterLetter negative) ks ts out g in (r.0 ∷ r.1, r.2, r.3, spelled_byte 122 b (codes "(" ∷ decimal r.0 ∷ (more_tokens r.1 ++ terms_tokens r.2)) bytes t r.4))
+      (λ t g. let r = ih (AfterLetter negative) ks ts out g in
+      (r.0 ∷ r.1, r.2, r.3, spelled_byte 122 b (codes "(" ∷ decimal r.0 ∷ (more_tokens r.1 ++ terms_tokens r.2)) bytes t r.4))
       (λ _ e. by_if f (is_blank b) _ _ (Some out) (Reads (AfterSign negative) ks ts (b ∷ bytes) out) e
       (λ t g. let r = ih (AfterSign negative) ks ts out g in (r.0, r.1, r.2, spelled_blank (zeta_tokens r.0 ++ terms_tokens r.1) b bytes t r.3))
       (λ _ e. cc))
 
-  behind_letter : (negative : Bool) (ks : List ℕ) (ts out : List Signed) → resume (st (AfterLetter negative) ks ts) (b ∷ bytes) ≡ Some out → Reads (AfterLetter negative) ks ts (b ∷ bytes) out
+  behind_letter : (negative : Bool) (ks : List ℕ) (ts out : List Signed) → resume (st (AfterLetter negative) ks ts) (b ∷ bytes) ≡ Some out
+      → Reads (AfterLetter negative) ks ts (b ∷ bytes) out
   behind_letter negative ks ts out e =
       by_if then (eqb b 40) _ _ (Some out) (Reads (AfterLetter negative) ks ts (b ∷ bytes) out) e
-      (λ t g. let r = ih (BeforeNumber negative) [] ts out g in (r.0, r.1, r.2, r.3, spelled_byte 40 b (decimal r.0 ∷ (more_tokens r.1 ++ terms_tokens r.2)) bytes t r.4))
+      (λ t g. let r = ih (BeforeNumber negative) [] ts out g in
+      (r.0, r.1, r.2, r.3, spelled_byte 40 b (decimal r.0 ∷ (more_tokens r.1 ++ terms_tokens r.2)) bytes t r.4))
       (λ _ e. by_if then (is_blank b) _ _ (Some out) (Reads (AfterLetter negative) ks ts (b ∷ bytes) out) e
-      (λ t g. let r = ih (AfterLetter negative) ks ts out g in (r.0, r.1, r.2, r.3, spelled_blank (codes "(" ∷ decimal r.0 ∷ (more_tokens r.1 ++ terms_tokens r.2)) b bytes t r.4))
+      (λ t g. let r = ih (AfterLetter negative) ks ts out g in
+      (r.0, r.1, r.2, r.3, spelled_blank (codes "(" ∷ decimal r.0 ∷ (more_tokens r.1 ++ terms_tokens r.2)) b bytes t r.4))
       (λ _ e. cc))
 
-  before_number_at : (negative : Bool) (ks : List ℕ) (ts out : List Signed) → resume (st (BeforeNumber negative) ks ts) (b ∷ bytes) ≡ Some out → Reads (BeforeNumber negative) ks ts (b ∷ bytes) out
+  before_number_at : (negative : Bool) (ks : List ℕ) (ts out : List Signed) → resume (st (BeforeNumber negative) ks ts) (b ∷ bytes) ≡ Some out
+      → Reads (BeforeNumber negative) ks ts (b ∷ bytes) out
   before_number_at negative ks ts out e =
       let f = λ (o : Option Place). then (at ks ts o) in
       by_if f (is_first_digit b) _ _ (Some out) (Reads (BeforeNumber negative) ks ts (b ∷ bytes) out) e
@@ -125,13 +151,16 @@ module _ (b : ℕ) (bytes : Bytes) (ih : IsSound bytes) where
       let w : b ∷ bytes ≡ decimal r.2 ++ r.1 = ap (λ v. b ∷ v) r.7 ∙ ap (λ v. (v ++ r.0) ++ r.1) (sym one) ∙ ap (λ v. v ++ r.1) r.6 in
       (r.2, r.3, r.4, r.5, ([], r.1, tt, w, r.8)))
       (λ _ e. by_if f (is_blank b) _ _ (Some out) (Reads (BeforeNumber negative) ks ts (b ∷ bytes) out) e
-      (λ t g. let r = ih (BeforeNumber negative) ks ts out g in (r.0, r.1, r.2, r.3, spelled_blank (decimal r.0 ∷ (more_tokens r.1 ++ terms_tokens r.2)) b bytes t r.4))
+      (λ t g. let r = ih (BeforeNumber negative) ks ts out g in
+      (r.0, r.1, r.2, r.3, spelled_blank (decimal r.0 ∷ (more_tokens r.1 ++ terms_tokens r.2)) b bytes t r.4))
       (λ _ e. cc))
 
-  behind_number : (negative : Bool) (ks : List ℕ) (ts out : List Signed) → resume (st (AfterNumber negative) ks ts) (b ∷ bytes) ≡ Some out → Reads (AfterNumber negative) ks ts (b ∷ bytes) out
+  behind_number : (negative : Bool) (ks : List ℕ) (ts out : List Signed) → resume (st (AfterNumber negative) ks ts) (b ∷ bytes) ≡ Some out
+      → Reads (AfterNumber negative) ks ts (b ∷ bytes) out
   behind_number negative ks ts out e =
       by_if then (eqb b 44) _ _ (Some out) (Reads (AfterNumber negative) ks ts (b ∷ bytes) out) e
-      (λ t g. let r = ih (BeforeNumber negative) ks ts out g in (r.0 ∷ r.1, r.2, r.3, spelled_byte 44 b (decimal r.0 ∷ (more_tokens r.1 ++ terms_tokens r.2)) bytes t r.4))
+      (λ t g. let r = ih (BeforeNumber negative) ks ts out g in
+      (r.0 ∷ r.1, r.2, r.3, spelled_byte 44 b (decimal r.0 ∷ (more_tokens r.1 ++ terms_tokens r.2)) bytes t r.4))
       (λ _ e. by_if then (eqb b 41) _ _ (Some out) (Reads (AfterNumber negative) ks ts (b ∷ bytes) out) e
       (λ t g. by_if then (is_accepted ks) _ _ (Some out) (Reads (AfterNumber negative) ks ts (b ∷ bytes) out) g
       (λ a g.
@@ -147,9 +176,12 @@ module _ (b : ℕ) (bytes : Bytes) (ih : IsSound bytes) where
       (λ t g. let r = ih (AfterNumber negative) ks ts out g in (r.0, r.1, r.2, spelled_blank (more_tokens r.0 ++ terms_tokens r.1) b bytes t r.3))
       (λ _ e. cc)))
 
-  in_number_at : (negative : Bool) (n : ℕ) (ks : List ℕ) (ts out : List Signed) → resume (st (InNumber negative n) ks ts) (b ∷ bytes) ≡ Some out → Reads (InNumber negative n) ks ts (b ∷ bytes) out
+  in_number_at : (negative : Bool) (n : ℕ) (ks : List ℕ) (ts out : List Signed) → resume (st (InNumber negative n) ks ts) (b ∷ bytes) ≡ Some out
+      → Reads (InNumber negative n) ks ts (b ∷ bytes) out
   in_number_at negative n ks ts out e p =
-      by_if then (is_digit b && ltb n 100) _ _ (Some out) ((digits : Bytes) × (rest : Bytes) × (k : ℕ) × (js : List ℕ) × (more : List Term) × Rest ts (record { negative = negative; index = ks ++ k ∷ js } ∷ more) out × (decimal n ++ digits ≡ decimal k) × (b ∷ bytes ≡ digits ++ rest) × IsSpelled (more_tokens js ++ terms_tokens more) rest) e
+      by_if then (is_digit b && ltb n 100) _ _ (Some out) ((digits : Bytes) × (rest : Bytes) × (k : ℕ) × (js : List ℕ) × (more : List Term)
+      × Rest ts (record { negative = negative; index = ks ++ k ∷ js } ∷ more) out × (decimal n ++ digits ≡ decimal k) × (b ∷ bytes ≡ digits ++ rest)
+      × IsSpelled (more_tokens js ++ terms_tokens more) rest) e
       (λ t g.
       let a = and-true _ _ t in
       let d = digit_bounds 48 b a.0 in

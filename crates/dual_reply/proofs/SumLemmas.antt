@@ -50,7 +50,8 @@ module _ (s : W → ℕ) (r : W) where
       (λ i. a i * (s r + (1 - b i) * s (dual_of r))) ∙ omega arith
 
 -- cases on a word: folding drops it, keeps it, or adds what stands at its dual
-pub by_kind : (r : W) (G : Type 0) → ((representative_of r ≡ r → ⊥) → G) → (representative_of r ≡ r → dual_of r ≡ r → G) → (representative_of r ≡ r → (dual_of r ≡ r → ⊥) → G) → G
+pub by_kind : (r : W) (G : Type 0) → ((representative_of r ≡ r → ⊥) → G) → (representative_of r ≡ r → dual_of r ≡ r → G)
+    → (representative_of r ≡ r → (dual_of r ≡ r → ⊥) → G) → G
 by_kind r G none self pair =
     ⊎_elim (λ p. ⊎_elim (λ d. self p d) (λ d. pair p d) (word_cases (dual_of r) r)) none (word_cases (representative_of r) r)
 
@@ -64,7 +65,8 @@ module _ (u r : W) where
 
   pub single-representative_of : single (representative_of u) r ≡ folded_at (single u) r
   single-representative_of = by_kind r (single (representative_of u) r ≡ folded_at (single u) r)
-      (λ n. single-other (representative_of u) r (λ e. n (ap representative_of (sym e) ∙ representative_of-representative_of u ∙ e)) ∙ sym (folded_at-none (single u) r n))
+      (λ n. single-other (representative_of u) r (λ e. n (ap representative_of (sym e) ∙ representative_of-representative_of u ∙ e))
+      ∙ sym (folded_at-none (single u) r n))
       (λ p d. ⊎_elim
       (λ e. single-same (representative_of u) r (ap representative_of e ∙ p) ∙ sym (folded_at-self (single u) r p d ∙ single-same u r e))
       (λ e. single-other (representative_of u) r (λ h. ⊎_elim e (λ k. e (k ∙ d)) (member h)) ∙ sym (folded_at-self (single u) r p d ∙ single-other u r e))

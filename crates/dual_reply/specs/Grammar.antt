@@ -33,7 +33,8 @@ terms_tokens (t ∷ ts) = sign_token t.negative ∷ (zeta_tokens t.index ++ term
 -- the bytes are the tokens in their order, with any blanks before each and behind the last
 abbrev pub IsSpelled : List (List ℕ) → List ℕ → Type 0
 IsSpelled [] bytes = AllByRecursion (λ b. IsTrue (is_blank b)) bytes
-IsSpelled (token ∷ tokens) bytes = (gap : List ℕ) × (rest : List ℕ) × AllByRecursion (λ b. IsTrue (is_blank b)) gap × (bytes ≡ gap ++ (token ++ rest)) × IsSpelled tokens rest
+IsSpelled (token ∷ tokens) bytes =
+    (gap : List ℕ) × (rest : List ℕ) × AllByRecursion (λ b. IsTrue (is_blank b)) gap × (bytes ≡ gap ++ (token ++ rest)) × IsSpelled tokens rest
 
 -- some numbers, each of one to three digits of which the first is not 0
 abbrev pub IsIndex : List ℕ → Type 0

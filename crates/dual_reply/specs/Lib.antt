@@ -1,6 +1,6 @@
 pub mod Grammar
-pub mod Reading
 pub mod Sums
 pub mod Listing
+pub mod Inner
 pub mod Reply
 pub mod Canonical

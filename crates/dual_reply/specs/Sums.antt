@@ -5,15 +5,24 @@ use Rattle.zeta_model.specs.declared.Letter.{Letter}
 use Rattle.zeta_model.specs.Words.{is_admissible}
 use Rattle.zeta_model.specs.Duality.{dual_of, representative_of}
 use Rattle.zeta_model.specs.Sums.{Sum, single, difference, continued, SameSum}
+use Rattle.zeta_model.specs.Indices.{word_of_index}
+use Rattle.dual_reply.specs.Grammar.{Term}
 use Rattle.dual_reply.specs.declared.reader.Signed.{Signed}
 
+-- the word of an index, with its sign
+abbrev pub signed : Bool → List ℕ → Signed
+signed negative ks = record { negative = negative; word = word_of_index ks }
+
+abbrev pub signed_of : Term → Signed
+signed_of t = signed t.negative t.index
+
 -- 1, or m - 1 where the sign is -
-abbrev pub number_of : ℕ → Bool → ℕ
-number_of m negative = if negative then m - 1 else 1
+abbrev pub sign_number : ℕ → Bool → ℕ
+sign_number m negative = if negative then m - 1 else 1
 
 -- the words with their numbers
 abbrev pub numbers_of : ℕ → List Signed → List (ℕ × List Letter)
-numbers_of m terms = map (λ t. (number_of m t.negative, t.word)) terms
+numbers_of m terms = map (λ t. (sign_number m t.negative, t.word)) terms
 
 -- the sum of some words with signs
 abbrev pub word_sum : ℕ → List Signed → Sum

@@ -1,6 +1,6 @@
 //! The sum of the terms of a line, folded by duality.
 ghost use Rattle.std.specs.Prelude.{◌≡◌, ℕ, ◌%◌, true, List, IfOk};
-ghost use Rattle.dual_reply.specs.Sums.{number_of, folded_sum};
+ghost use Rattle.dual_reply.specs.Sums.{sign_number, folded_sum};
 ghost use Rattle.word_sums.specs.Terms.{coefficient_of, AllIn};
 ghost use Rattle.zeta_model.specs.declared.Letter.{Letter};
 
@@ -13,7 +13,7 @@ use word_sums::WordSum;
 /// The coefficient of a term: one, or its opposite where the sign is `-`.
 fn signed_one<R: Ring>(ring: &R, negative: bool) -> R::Elem
     ensures has { R.has ring.now result ≡ true }
-    ensures value { R.value ring.now result ≡ number_of (R.modulus ring.now) negative }
+    ensures value { R.value ring.now result ≡ sign_number (R.modulus ring.now) negative }
 {
     if negative {
         ring.neg(ring.one())

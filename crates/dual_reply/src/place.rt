@@ -1,7 +1,7 @@
 //! Where a reader stands in a line, and where the next byte takes it.
 ghost use Rattle.std.specs.Prelude.{◌≡◌};
 ghost use Rattle.dual_reply.specs.Grammar.{is_blank};
-ghost use Rattle.dual_reply.specs.Reading.{after_start, after_sign, after_zeta};
+ghost use Rattle.dual_reply.specs.Inner.{after_start, after_sign, after_zeta};
 
 /// Where a reader stands: behind what it has read last, with the sign of the zeta that it is in, true for `-`.
 #[derive(Clone, Copy)]

@@ -1,6 +1,6 @@
 //! The terms of a line, read byte by byte.
 ghost use Rattle.std.specs.Prelude.{◌≡◌, ℕ, ◌+◌, ◌<◌, ◌≤◌, List, Option, Some, None, OnOk, IfOk, option_map, take, drop, length};
-ghost use Rattle.dual_reply.specs.Reading.{at, next_at, after_letter, after_number, before_number, in_number, closed, terms_of, accepted_word};
+ghost use Rattle.dual_reply.specs.Inner.{at, next_at, after_letter, after_number, before_number, in_number, closed, terms_of, accepted_word};
 
 use crate::place::{Place, after_sign, after_start, after_zeta, is_blank};
 use smallvec::SmallVec;

@@ -1,11 +1,12 @@
 use super::*;
+use residues::WordMod;
 use std::alloc::{AllocError, Global};
 
 /// Whether a line gets a reply.
 fn gets(alloc: Global, modulus: u64, line: &[u8], wanted: &[u8]) -> Result<bool, AllocError> {
     let mut out = Vec::new(alloc);
-    if 3 <= modulus && modulus < 9223372036854775808 {
-        reply(alloc, modulus, line, &mut out)?;
+    if let Ok(ring) = WordMod::new(modulus) {
+        reply(alloc, &ring, line, &mut out)?;
     }
     Ok(out.as_slice() == wanted)
 }

@@ -3,7 +3,7 @@ ghost use Rattle.std.specs.Prelude.{◌≡◌, ℕ, ◌+◌, ◌++◌, List, len
 ghost use Rattle.std.specs.List.{join_with_byte};
 ghost use Rattle.std.specs.Fmt.{decimal};
 ghost use Rattle.zeta_model.specs.Indices.{index_of, word_text};
-ghost use Rattle.dual_reply.specs.Reply.{behind_byte, entry_text, text_of};
+ghost use Rattle.dual_reply.specs.Reply.{behind_byte, entry_text, sum_text};
 
 use itoa::Buffer;
 use std::alloc::AllocError;
@@ -70,7 +70,7 @@ fn push_entry(out: &mut Vec<u8>, first: bool, entry: &(Word, u64)) -> Result<(),
 
 /// Adds the text of a sum: its entries joined by `+`, and `0` where there is none.
 pub fn push_text(out: &mut Vec<u8>, entries: &[(Word, u64)]) -> Result<(), AllocError>
-    ensures ok { OnOk result (out.new.items ≡ out.old.items ++ text_of entries.now) }
+    ensures ok { OnOk result (out.new.items ≡ out.old.items ++ sum_text entries.now) }
     ensures kept { take (length out.old.items) out.new.items ≡ out.old.items }
 {
     if entries.is_empty() {

@@ -1,5 +1,5 @@
 use Rattle.std.proofs.Common.{◌≡◌, true, sym, ap, subst, ◌∙◌}
-use Rattle.dual_reply.specs.Sums.{number_of}
+use Rattle.dual_reply.specs.Sums.{sign_number}
 use Rattle.dual_reply.proofs.FoldedTerms.{opposite_of_one}
 use Rattle.dual_reply.proofs.fold.signed_one.Goals as goal
 
@@ -9,5 +9,6 @@ returns-then-negative-clause-value g c =
     let m = g.R.Ring.modulus ring in
     let one : g.R.Ring.has ring c.one.result ≡ true = subst (λ a. g.R.Ring.has ring a ≡ true) (sym c.one.ensures) (g.met.R.Ring.has_one ring) in
     ap (g.R.Ring.value ring) c.neg.ensures ∙ g.met.R.Ring.value_neg ring c.one.result one
-    ∙ opposite_of_one m (g.R.Ring.value ring c.one.result) (g.met.R.Ring.modulus_from ring) (ap (g.R.Ring.value ring) c.one.ensures ∙ g.met.R.Ring.value_one ring)
-    ∙ ap (number_of m) (sym c.if-negative.true)
+    ∙ opposite_of_one m (g.R.Ring.value ring c.one.result) (g.met.R.Ring.modulus_from ring) (ap (g.R.Ring.value ring) c.one.ensures
+    ∙ g.met.R.Ring.value_one ring)
+    ∙ ap (sign_number m) (sym c.if-negative.true)

@@ -11,7 +11,8 @@ pub returns-clause-increasing : goal.returns-clause-increasing
 returns-clause-increasing g c =
     let items = c.loop-word.terms.items in
     let all : items ≡ c.args.sum.now =
-    sym (append-nil items) ∙ ap (λ es. items ++ es) (sym c.in-None.ensures.steps.0) ∙ c.loop-word.invariant ∙ c.into_iter-word-iterator.ensures.into_iter_gives ∙ c.iter-word-items.ensures.rest in
+    sym (append-nil items) ∙ ap (λ es. items ++ es) (sym c.in-None.ensures.steps.0) ∙ c.loop-word.invariant
+    ∙ c.into_iter-word-iterator.ensures.into_iter_gives ∙ c.iter-word-items.ensures.rest in
     increasing-by_weight items c.sort_unstable_by_key.new.self.items
     (subst (λ es. IsDistinct same_word (keys_of es)) (sym all) c.iter-word-items.ensures.terms.once)
     c.sort_unstable_by_key.ensures.permutation

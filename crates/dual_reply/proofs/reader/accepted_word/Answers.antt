@@ -21,15 +21,20 @@ not_zero ks i e a =
 not_heavy : (ks : List ℕ) (n : ℕ) → n ≡ sum ks → 24 < n → Accepts ks → ⊥
 not_heavy ks n e h a = let l = a.light in absurd (omega arith)
 
-refused : (ks : List ℕ) (r : Result (List Letter) IndexFault) (e : IndexFault) → r ≡ Err e → (IsErrOf r EmptyIndex ↔ (ks ≡ [])) → ((i : ℕ) → IsErrOf r (ZeroIndex i) ↔ (position (λ k. k == 0) ks ≡ Some i)) → ((n : ℕ) → IsErrOf r (TooLong n) ↔ (All (λ k. 0 < k) ks × (n ≡ sum ks) × (24 < n))) → Accepts ks → ⊥
+refused : (ks : List ℕ) (r : Result (List Letter) IndexFault) (e : IndexFault) → r ≡ Err e → (IsErrOf r EmptyIndex ↔ (ks ≡ []))
+    → ((i : ℕ) → IsErrOf r (ZeroIndex i) ↔ (position (λ k. k == 0) ks ≡ Some i))
+    → ((n : ℕ) → IsErrOf r (TooLong n) ↔ (All (λ k. 0 < k) ks × (n ≡ sum ks) × (24 < n))) → Accepts ks → ⊥
 refused ks r EmptyIndex e p q s = not_empty ks (p.0 e)
 refused ks r (ZeroIndex i) e p q s = not_zero ks i ((q i).0 e)
 refused ks r (TooLong n) e p q s = let h = (s n).0 e in not_heavy ks n h.1 h.2
 
 pub returns-in-Ok : goal.returns-in-Ok
 returns-in-Ok c =
-    c.then_some.ensures ∙ accepted_word-some c.args.index.now c.in-Ok.word c.in-Ok.ensures.word c.in-Ok.ensures.fits.1 c.in-Ok.ensures.fits.2 (ltb 1 (get_or c.args.index.now 0 0)) refl
+    c.then_some.ensures ∙ accepted_word-some c.args.index.now c.in-Ok.word c.in-Ok.ensures.word c.in-Ok.ensures.fits.1 c.in-Ok.ensures.fits.2
+    (ltb 1 (get_or c.args.index.now 0 0)) refl
 
 pub returns-in-Err : goal.returns-in-Err
 returns-in-Err c =
-    accepted_word-none c.args.index.now (refused c.args.index.now c.from_index.result c.in-Err.field-0 c.in-Err.is c.from_index.ensures.empty_index c.from_index.ensures.zero_index c.from_index.ensures.too_long)
+    accepted_word-none c.args.index.now
+    (refused c.args.index.now c.from_index.result c.in-Err.field-0 c.in-Err.is c.from_index.ensures.empty_index c.from_index.ensures.zero_index
+    c.from_index.ensures.too_long)

@@ -2,7 +2,7 @@ use Rattle.std.proofs.Common.{◌≡◌, ℕ, ◌+◌, ◌<◌, ◌≤◌, cond,
 use Rattle.std.specs.Prelude.{option_and_then}
 use Rattle.std.proofs.lemmas.Bool.{lt-ltb, le-ltb}
 use Rattle.std.proofs.Math.Seq.{drop-cons}
-use Rattle.dual_reply.specs.Reading.{State, terms_of, resume, next_at, start, ending, at}
+use Rattle.dual_reply.specs.Inner.{State, terms_of, resume, next_at, start, ending, at}
 use Rattle.dual_reply.specs.declared.place.Place.{Place}
 use Rattle.dual_reply.specs.declared.place.Place.TheVariants.{Start, AfterSign, AfterLetter, BeforeNumber, InNumber, AfterNumber, AfterZeta}
 use Rattle.dual_reply.specs.declared.reader.Signed.{Signed}
@@ -17,7 +17,8 @@ within : (line : Bytes) → length line ≤ 4096 → terms_of line ≡ resume st
 unfolding terms_of
 within line h = ap (λ t. cond t None (resume start line)) (le-ltb 4096 (length line) h)
 
-step : (p : Place) (ks : List ℕ) (ts : List Signed) (line : Bytes) (i : ℕ) → i < length line → resume (st p ks ts) (drop i line) ≡ option_and_then (λ t. resume t (drop (i + 1) line)) (next_at p ks ts (get_or line i 0))
+step : (p : Place) (ks : List ℕ) (ts : List Signed) (line : Bytes) (i : ℕ) → i < length line
+    → resume (st p ks ts) (drop i line) ≡ option_and_then (λ t. resume t (drop (i + 1) line)) (next_at p ks ts (get_or line i 0))
 step p ks ts line i h = ap (resume (st p ks ts)) (drop-cons line i 0 h ∙ ap (λ j. get_or line i 0 ∷ drop j line) (sym (add-one i)))
 
 ended : (p : Place) (ks : List ℕ) (ts : List Signed) (line : Bytes) (i : ℕ) → length line ≤ i → resume (st p ks ts) (drop i line) ≡ ending p ts

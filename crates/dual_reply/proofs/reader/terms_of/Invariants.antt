@@ -1,5 +1,5 @@
 use Rattle.std.proofs.Common.{◌≡◌, drop}
-use Rattle.dual_reply.specs.Reading.{resume, start}
+use Rattle.dual_reply.specs.Inner.{resume, start}
 use Rattle.dual_reply.proofs.CompleteReading.{st}
 use Rattle.dual_reply.proofs.reader.terms_of.Given as goal
 

@@ -19,8 +19,10 @@ loop-i-preserved c =
         kept = ap (λ v. take (length c.args.out.now.items) v.items) w.out-is ∙ l.invariant.kept;
       }
       | in-Y+in_ok-push_part-in-Y w ↦ record {
-        text = index-y l.out.items m.out.items l.first m.first l.run m.run l.i word _ (ap (λ v. v.items) w.out-is ∙ w.in_ok-push_part-in-Y.ensures.ok) w.first-is w.run-is w.in-Y.ensures l.invariant.text;
+        text = index-y l.out.items m.out.items l.first m.first l.run m.run l.i word _ (ap (λ v. v.items) w.out-is
+            ∙ w.in_ok-push_part-in-Y.ensures.ok) w.first-is w.run-is w.in-Y.ensures l.invariant.text;
         small = omega arith;
-        kept = kept_trans c.args.out.now.items l.out.items m.out.items l.invariant.kept (ap (λ v. take (length l.out.items) v.items) w.out-is ∙ w.push_part.ensures.kept);
+        kept = kept_trans c.args.out.now.items l.out.items m.out.items l.invariant.kept (ap (λ v. take (length l.out.items) v.items) w.out-is
+            ∙ w.push_part.ensures.kept);
       }
     ]

@@ -3,4 +3,5 @@ use Rattle.std.proofs.lemmas.Fmt.{decimal_digit}
 use Rattle.dual_reply.proofs.text.push_number.Goals as goal
 
 pub returns-then-number-lt10-clause-ok : goal.returns-then-number-lt10-clause-ok
-returns-then-number-lt10-clause-ok c = c.in_ok-push.ensures.items ∙ ap (λ text. c.args.out.now.items ++ text) (sym (decimal_digit c.args.number c.if-number-lt10.true))
+returns-then-number-lt10-clause-ok c = c.in_ok-push.ensures.items
+    ∙ ap (λ text. c.args.out.now.items ++ text) (sym (decimal_digit c.args.number c.if-number-lt10.true))
