@@ -7,12 +7,13 @@ use Rattle.std.specs.Str.Parse.{ParsesUnsigned}
 use Rattle.std.proofs.lemmas.Str.Parse.{IsNumeralModel, numerals_by_fold, parse_plain}
 use Rattle.std.proofs.lemmas.Bool.{lt-ltb, ltb-true}
 use Rattle.std.proofs.lemmas.Bool.Decides.{nat_tests}
-use Rattle.datamine_program.specs.Words.{value_after, number_of}
+use Rattle.datamine_program.specs.CommandLine.{value_after, number_word}
 
 own : IsNumeralModel (λ ds. all_ascii_digits ds ≡ true) (value_after 0)
 own = numerals_by_fold _ (search rules) value_after (search rules)
 
-by_tests : {E : Type 0} (a b c : Bool) (n : ℕ) (r : Result ℕ E) → OkIff r ((b ≡ true) × (a ≡ true) × (c ≡ true)) n → result_ok r ≡ (if a && b && c then Some n else None)
+by_tests : {E : Type 0} (a b c : Bool) (n : ℕ) (r : Result ℕ E) → OkIff r ((b ≡ true) × (a ≡ true) × (c ≡ true)) n
+    → result_ok r ≡ (if a && b && c then Some n else None)
 by_tests true true true n (Ok x) h = ap Some h.1
 by_tests true true true n (Err e) h = absurd (h (refl, refl, refl))
 by_tests false b c n (Ok x) h = absurd cc
@@ -26,10 +27,11 @@ OkIff-weaker : {E P Q : Type 0} (n : ℕ) (r : Result ℕ E) → (P → Q) → (
 OkIff-weaker n (Ok x) there back h = (there h.0, h.1)
 OkIff-weaker n (Err e) there back h = λ q. h (back q)
 
-pub number_read : {E : Type 0} (bs : List ℕ) (r : Result ℕ E) → get_or bs 0 0 ≢ 43 → ParsesUnsigned 64 10 bs r → result_ok r ≡ number_of bs
+pub number_read : {E : Type 0} (bs : List ℕ) (r : Result ℕ E) → get_or bs 0 0 ≢ 43 → ParsesUnsigned 64 10 bs r → result_ok r ≡ number_word bs
 number_read bs r plain h =
     by_tests (nat_lt 0 (length bs)) (all_ascii_digits bs) (nat_lt (value_after 0 bs) (2 ^ 64)) (value_after 0 bs) r
-    (OkIff-weaker (value_after 0 bs) r (λ p. (p.0, lt-ltb _ _ p.1, lt-ltb _ _ p.2)) (λ q. (q.0, ltb-true _ _ q.1, ltb-true _ _ q.2)) (parse_plain own 64 bs r h plain))
+    (OkIff-weaker (value_after 0 bs) r (λ p. (p.0, lt-ltb _ _ p.1, lt-ltb _ _ p.2)) (λ q. (q.0, ltb-true _ _ q.1, ltb-true _ _ q.2))
+    (parse_plain own 64 bs r h plain))
 
 pub not_plus : (b : ℕ) → eqb b 43 ≡ false → b ≢ 43
 not_plus b other is = grind (arith, nat_tests, other, is)

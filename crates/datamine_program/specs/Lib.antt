@@ -1,4 +1,3 @@
 pub mod Statuses
-pub mod Words
+pub mod CommandLine
 pub mod Runs
-pub mod Replies

@@ -1,9 +1,10 @@
 -- The numbers of the statuses, and what they say of a run.
 use Rattle.std.specs.Prelude.{◌≡◌, ◌⊎◌, ℕ}
 use Rattle.datamine_program.specs.declared.status.Status.{Status}
-use Rattle.datamine_program.specs.declared.status.Status.TheVariants.{Done, Memory, Usage, Params, NoInverse, DiskFault, ReadFault, WriteFault, NotATable, NotComplete, NotLeading, TooMuchInput}
+use Rattle.datamine_program.specs.declared.status.Status.TheVariants.{Done, Memory, Usage, Params, NoInverse, DiskFault, ReadFault, WriteFault}
+use Rattle.datamine_program.specs.declared.status.Status.TheVariants.{NotATable, NotComplete, TooMuchInput}
 
--- the number with which the process ends
+-- the number with which the process ends; no run ends with 10
 abbrev pub code_of : Status → ℕ
 code_of Done = 0
 code_of Memory = 1
@@ -15,7 +16,6 @@ code_of ReadFault = 6
 code_of WriteFault = 7
 code_of NotATable = 8
 code_of NotComplete = 9
-code_of NotLeading = 10
 code_of TooMuchInput = 11
 
 -- want of memory or a fault outside may break a run off, and nothing else does

@@ -1,15 +1,17 @@
 //! The call that the program makes: the command that the words ask for is done.
-ghost use Rattle.std.specs.Prelude.{◌≡◌, [], ℕ, map, string_bytes, Ok, Err};
+ghost use Rattle.std.specs.Prelude.{◌≡◌, ◌+◌, [], ℕ, map, string_bytes, Ok, Err};
 ghost use Rattle.outside_io.specs.Causes.{Rose};
-ghost use Rattle.line_loop.specs.Talk.{Tells};
+ghost use Rattle.line_loop.specs.Lines.{input_limit};
+ghost use Rattle.line_loop.specs.Talk.{Tells, TakesAtMost};
+ghost use Rattle.dual_reply.specs.Canonical.{TellsSums};
 ghost use Rattle.datamine_program.specs.Statuses.{ComesFor};
-ghost use Rattle.datamine_program.specs.Words.{asked};
-ghost use Rattle.datamine_program.specs.Replies.{TellsSums};
-ghost use Rattle.datamine_program.specs.Runs.{Outcome, AnswersSeen, ReadsLines, NamesFile, FailsTest};
-ghost use Rattle.datamine_program.specs.declared.words.Command.TheVariants.{Dual};
-ghost use Rattle.datamine_program.specs.declared.words.WordsFault.TheVariants.{Usage};
+ghost use Rattle.datamine_program.specs.CommandLine.{asked};
+ghost use Rattle.datamine_program.specs.Runs.{wanted, Outcome, AnswersSeen, ReadsLines, NamesFile, FailsTest};
+ghost use Rattle.datamine_program.specs.declared.command_line.Command.TheVariants.{Dual};
+ghost use Rattle.datamine_program.specs.declared.command_line.WordsFault.TheVariants.{Usage};
 
-use crate::dual::run_dual;
+use crate::dual::Duality;
+use crate::lines::run_lines;
 use crate::list::run_list;
 use crate::refusals::{refuse_param, refuse_words};
 use crate::{Command, Status, WordsFault, read_words};
@@ -34,13 +36,15 @@ pub fn run<D: Disk, S: Source, K: Sink>(
 ) -> Status
     ensures usage { ComesFor (asked (map string_bytes words.now) ≡ Err Usage) Status.Usage result }
     ensures params { ComesFor (FailsTest (asked (map string_bytes words.now))) Status.Params result }
-    ensures disk_fault_only { result ≡ Status.DiskFault → NamesFile (asked (map string_bytes words.now)) × Rose (D.faults disk.old) (D.faults disk.new) }
-    ensures read_fault_only { result ≡ Status.ReadFault → ReadsLines (asked (map string_bytes words.now)) × Rose (S.faults source.old) (S.faults source.new) }
+    ensures disk_fault_only { result ≡ Status.DiskFault → NamesFile (wanted (map string_bytes words.now)) × Rose (D.faults disk.old) (D.faults disk.new) }
+    ensures read_fault_only { result ≡ Status.ReadFault → ReadsLines (wanted (map string_bytes words.now)) × Rose (S.faults source.old) (S.faults source.new) }
     ensures write_fault_only { result ≡ Status.WriteFault → Rose (K.faults sink.old) (K.faults sink.new) }
-    ensures outcome { Outcome (asked (map string_bytes words.now)) (S.left source.old) (K.taken sink.old) (K.taken sink.new) result }
-    ensures done { result ≡ Status.Done → ReadsLines (asked (map string_bytes words.now)) → Tells (S.left source.new) [] }
-    ensures answered { result ≡ Status.ReadFault → AnswersSeen (asked (map string_bytes words.now)) (S.left source.old) (S.left source.new) (K.taken sink.old) (K.taken sink.new) }
+    ensures outcome { Outcome (wanted (map string_bytes words.now)) (S.left source.old) (K.taken sink.old) (K.taken sink.new) result }
+    ensures done { result ≡ Status.Done → ReadsLines (wanted (map string_bytes words.now)) → Tells (S.left source.new) [] }
+    ensures answered { result ≡ Status.ReadFault → AnswersSeen (wanted (map string_bytes words.now)) (S.left source.old) (S.left source.new) (K.taken sink.old) (K.taken sink.new) }
     ensures disk { disk.new ≡ disk.old }
+    ensures source { (ReadsLines (wanted (map string_bytes words.now)) → ⊥) → source.new ≡ source.old }
+    ensures takes { TakesAtMost (input_limit + 1) (S.left source.old) (S.left source.new) }
 
     // Two accepted lines get the same text exactly where their sums differ by duality, and no accepted line is refused.
     ensures replies { (m : ℕ) → asked (map string_bytes words.now) ≡ Ok (Dual m) → TellsSums m }
@@ -48,7 +52,9 @@ pub fn run<D: Disk, S: Source, K: Sink>(
     match read_words(words) {
         Err(WordsFault::Usage) => refuse_words(sink),
         Err(WordsFault::Param(fault)) => refuse_param(sink, fault),
-        Ok(Command::Dual { modulus }) => run_dual(alloc, modulus, source, sink),
+        Ok(Command::Dual { modulus }) => {
+            run_lines(alloc, &Duality::modulo(alloc, modulus), source, sink)
+        }
         Ok(Command::List { weight, depth }) => run_list(alloc, weight, depth, sink),
     }
 }

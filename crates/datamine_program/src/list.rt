@@ -3,27 +3,23 @@ ghost use Rattle.std.specs.Prelude.{◌≡◌, ◌≢◌, ◌⊎◌, ◌++◌, �
 ghost use Rattle.outside_io.specs.Causes.{Rose};
 ghost use Rattle.relation_list.specs.Listings.{listing_of};
 ghost use Rattle.relation_list.specs.Names.{is_name_of};
-ghost use Rattle.datamine_program.specs.Runs.{Outcome, name_line, name_lines};
-ghost use Rattle.datamine_program.specs.declared.words.Command.TheVariants.{List as ListOf};
+ghost use Rattle.datamine_program.specs.Runs.{work_of, Outcome, name_line, name_lines};
+ghost use Rattle.datamine_program.specs.declared.command_line.Command.TheVariants.{List as ListOf};
 
 use crate::Status;
-use outside_io::{Sink, write_all};
+use crate::writing::write_and_end;
+use outside_io::Sink;
 use relation_list::{RelName, listing, push_text};
 use std::alloc::{AllocError, Global};
 use std::fmt::Write;
 
 // Puts the line of a name at the end of the lines.
-fn push_line(
-    alloc: Global,
-    lines: &mut String,
-    number: usize,
-    name: &RelName,
-) -> Result<(), AllocError>
+fn push_line(lines: &mut String, number: usize, name: &RelName) -> Result<(), AllocError>
     requires { IsTrue (is_name_of name.now) }
     ensures { OnOk result (string_bytes lines.new ≡ string_bytes lines.old ++ name_line number name.now) }
 {
     write!(lines, "{number} ")?;
-    push_text(alloc, lines, name)?;
+    push_text(lines, name)?;
     lines.push_str("\n")
 }
 
@@ -34,16 +30,16 @@ fn lines_of(alloc: Global, names: &[RelName]) -> Result<String, AllocError>
 {
     let mut lines = String::new(alloc);
     for (number, name) in names.iter().enumerate() {
-        push_line(alloc, &mut lines, number, name)?;
+        push_line(&mut lines, number, name)?;
     }
     Ok(lines)
 }
 
 fn listing_lines(alloc: Global, weight: u32, depth: u32) -> Result<String, AllocError>
-    requires weight_from { 2 ≤ weight }
-    requires weight_within { weight ≤ 24 }
-    requires depth_from { 1 ≤ depth }
-    requires depth_below { depth < weight }
+    requires least { 2 ≤ weight }
+    requires most { weight ≤ 24 }
+    requires some { 1 ≤ depth }
+    requires below { depth < weight }
     ensures { IfOk result (λ lines. string_bytes lines ≡ name_lines 0 (listing_of weight depth)) }
 {
     let names = listing(alloc, weight, depth)?;
@@ -52,19 +48,16 @@ fn listing_lines(alloc: Global, weight: u32, depth: u32) -> Result<String, Alloc
 
 // Prints the listing, in one write.
 pub(crate) fn run_list<K: Sink>(alloc: Global, weight: u32, depth: u32, sink: &mut K) -> Status
-    requires weight_from { 2 ≤ weight }
-    requires weight_within { weight ≤ 24 }
-    requires depth_from { 1 ≤ depth }
-    requires depth_below { depth < weight }
+    requires least { 2 ≤ weight }
+    requires most { weight ≤ 24 }
+    requires some { 1 ≤ depth }
+    requires below { depth < weight }
     ensures which { (result ≡ Status.Done) ⊎ (result ≡ Status.Memory) ⊎ (result ≡ Status.WriteFault) }
-    ensures outcome { (left : Option (List ℕ)) → Outcome (Ok (ListOf weight depth)) left (K.taken sink.old) (K.taken sink.new) result }
+    ensures outcome { (left : Option (List ℕ)) → Outcome (work_of (Ok (ListOf weight depth))) left (K.taken sink.old) (K.taken sink.new) result }
     ensures write_fault_only { result ≡ Status.WriteFault → Rose (K.faults sink.old) (K.faults sink.new) }
 {
     let Ok(lines) = listing_lines(alloc, weight, depth) else {
         return Status::Memory;
     };
-    match write_all(sink, lines.as_bytes()) {
-        Ok(()) => Status::Done,
-        Err(_) => Status::WriteFault,
-    }
+    write_and_end(sink, lines.as_bytes(), Status::Done)
 }

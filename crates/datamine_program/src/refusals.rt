@@ -2,9 +2,10 @@
 ghost use Rattle.std.specs.Prelude.{◌≡◌, ◌⊎◌, ◌≤◌, ◌++◌, ◌∷◌, [], ℕ, List, Option, OnOk, OnErr, Err, decimal};
 ghost use Rattle.outside_io.specs.Causes.{HasCause, Rose};
 ghost use Rattle.outside_io.specs.Told.{after_told, AppendsFront};
-ghost use Rattle.datamine_program.specs.Runs.{Outcome, param_line};
-ghost use Rattle.datamine_program.specs.declared.words.WordsFault.TheVariants.{Usage, Param};
+ghost use Rattle.datamine_program.specs.Runs.{work_of, Outcome, param_line};
+ghost use Rattle.datamine_program.specs.declared.command_line.WordsFault.TheVariants.{Usage, Param};
 
+use crate::writing::write_and_end;
 use crate::{ParamFault, Status};
 use itoa::Buffer;
 use outside_io::{Failed, Sink, write_all};
@@ -54,22 +55,20 @@ fn write_param<K: Sink>(sink: &mut K, fault: ParamFault) -> Result<(), Failed>
 // Refuses words that fit no command.
 pub(crate) fn refuse_words<K: Sink>(sink: &mut K) -> Status
     ensures which { (result ≡ Status.Usage) ⊎ (result ≡ Status.WriteFault) }
-    ensures outcome { (left : Option (List ℕ)) → Outcome (Err Usage) left (K.taken sink.old) (K.taken sink.new) result }
+    ensures outcome { (left : Option (List ℕ)) → Outcome (work_of (Err Usage)) left (K.taken sink.old) (K.taken sink.new) result }
     ensures write_fault_only { result ≡ Status.WriteFault → Rose (K.faults sink.old) (K.faults sink.new) }
 {
-    match write_all(
+    write_and_end(
         sink,
         b"usage: dual M; list W D; reduce W D M ORDER; build FILE W D M ORDER; resume FILE W D M ORDER; check FILE; rewrite FILE; show FILE; sample W D M SEED COUNT\n",
-    ) {
-        Ok(()) => Status::Usage,
-        Err(_) => Status::WriteFault,
-    }
+        Status::Usage,
+    )
 }
 
 // Refuses a parameter that fails its test.
 pub(crate) fn refuse_param<K: Sink>(sink: &mut K, fault: ParamFault) -> Status
     ensures which { (result ≡ Status.Params) ⊎ (result ≡ Status.WriteFault) }
-    ensures outcome { (left : Option (List ℕ)) → Outcome (Err (Param fault)) left (K.taken sink.old) (K.taken sink.new) result }
+    ensures outcome { (left : Option (List ℕ)) → Outcome (work_of (Err (Param fault))) left (K.taken sink.old) (K.taken sink.new) result }
     ensures write_fault_only { result ≡ Status.WriteFault → Rose (K.faults sink.old) (K.faults sink.new) }
 {
     match write_param(sink, fault) {

@@ -2,7 +2,7 @@
 ghost use Rattle.std.specs.Prelude.{◌≡◌};
 ghost use Rattle.datamine_program.specs.Statuses.{code_of};
 
-/// How a run ends. The variants stand in the order of their numbers.
+/// How a run ends. The variants stand in the order of their numbers, of which 10 is not used.
 #[derive(Clone, Copy, Debug, PartialEq, Eq)]
 pub enum Status {
     /// The command is done.
@@ -25,14 +25,12 @@ pub enum Status {
     NotATable,
     /// The table is not complete.
     NotComplete,
-    /// A Lyndon word does not lead its shuffle product.
-    NotLeading,
     /// The source gives more bytes than may be input.
     TooMuchInput,
 }
 
 impl Status {
-    /// The number with which the process ends, from 0 to 11.
+    /// The number with which the process ends, from 0 to 9, or 11.
     pub fn code(self) -> u8
         ensures { result ≡ code_of self }
     {
@@ -47,7 +45,6 @@ impl Status {
             Status::WriteFault => 7,
             Status::NotATable => 8,
             Status::NotComplete => 9,
-            Status::NotLeading => 10,
             Status::TooMuchInput => 11,
         }
     }

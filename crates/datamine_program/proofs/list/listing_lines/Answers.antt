@@ -11,4 +11,5 @@ lines_of-requires c =
     let listed : c.deref.result.now ≡ listing_of c.args.weight c.args.depth = c.deref.ensures.value ∙ c.in_ok-names.ensures in
     λ k d below.
     let name = slice_index_or c.deref.result.now k d in
-    ((listing_of-whole c.args.weight c.args.depth name c.requires.weight_within).0 (subst (λ (names : List RelName). Contains names name) listed (Contains-get_or c.deref.result.now k d below))).0
+    ((listing_of-whole c.args.weight c.args.depth name c.requires.most).0
+    (subst (λ (names : List RelName). Contains names name) listed (Contains-get_or c.deref.result.now k d below))).0

@@ -1,5 +1,5 @@
 use Rattle.std.proofs.lemmas.Result.{err_from_is_err_and, on_err_weaker}
-use Rattle.datamine_program.proofs.Outcomes.{front_more, front_of}
+use Rattle.outside_io.proofs.Telling.{front_more, front_of}
 use Rattle.datamine_program.proofs.refusals.write_both.Goals as goal
 
 pub returns-in_err-write_all-clause-err : goal.returns-in_err-write_all-clause-err
@@ -8,4 +8,5 @@ returns-in_err-write_all-clause-err g c =
     rw p.1 (front_of _ _ c.args.first.now c.args.second.now c.in_err-write_all.ensures.err)
 
 pub returns-clause-err : goal.returns-clause-err
-returns-clause-err g c = on_err_weaker c.write_all-2.result (front_more _ _ _ c.args.first.now c.args.second.now c.in_ok-write_all.ensures.ok) c.write_all-2.ensures.err
+returns-clause-err g c = on_err_weaker c.write_all-2.result
+    (front_more _ _ _ c.args.first.now c.args.second.now c.in_ok-write_all.ensures.ok) c.write_all-2.ensures.err

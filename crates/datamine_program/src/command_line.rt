@@ -1,6 +1,6 @@
 //! What the words of the command line ask for.
 ghost use Rattle.std.specs.Prelude.{◌≡◌, ◌==◌, map, string_bytes, slice_index, IfOk};
-ghost use Rattle.datamine_program.specs.Words.{asked, number_of, dual_of, list_of, tested_list, IsInRange};
+ghost use Rattle.datamine_program.specs.CommandLine.{asked, number_word, asked_dual, asked_list, asked_listing, IsInRange};
 
 use column_order::{MAX_COLUMNS, count};
 use thiserror::Error;
@@ -50,8 +50,8 @@ fn begins_with_plus(word: &[u8]) -> bool
 }
 
 // The number that a word writes, where it is one or more digits and the value fits.
-fn number(word: &str) -> Option<u64>
-    ensures { result ≡ number_of word.now }
+fn number_word(word: &str) -> Option<u64>
+    ensures { result ≡ number_word word.now }
 {
     // What std reads as a number may have a plus before its digits.
     if begins_with_plus(word.as_bytes()) {
@@ -60,8 +60,8 @@ fn number(word: &str) -> Option<u64>
     word.parse().ok()
 }
 
-fn dual(modulus: Option<u64>) -> Result<Command, WordsFault>
-    ensures { result ≡ dual_of modulus }
+fn asked_dual(modulus: Option<u64>) -> Result<Command, WordsFault>
+    ensures { result ≡ asked_dual modulus }
 {
     match modulus {
         None => Err(WordsFault::Usage),
@@ -72,8 +72,8 @@ fn dual(modulus: Option<u64>) -> Result<Command, WordsFault>
     }
 }
 
-fn tested_list(weight: u64, depth: u64) -> Result<Command, WordsFault>
-    ensures { result ≡ tested_list weight depth }
+fn asked_listing(weight: u64, depth: u64) -> Result<Command, WordsFault>
+    ensures { result ≡ asked_listing weight depth }
 {
     if weight < 2 || weight > 24 {
         return Err(WordsFault::Param(ParamFault::Weight(weight)));
@@ -89,11 +89,11 @@ fn tested_list(weight: u64, depth: u64) -> Result<Command, WordsFault>
     Ok(Command::List { weight, depth })
 }
 
-fn list(weight: Option<u64>, depth: Option<u64>) -> Result<Command, WordsFault>
-    ensures { result ≡ list_of weight depth }
+fn asked_list(weight: Option<u64>, depth: Option<u64>) -> Result<Command, WordsFault>
+    ensures { result ≡ asked_list weight depth }
 {
     match (weight, depth) {
-        (Some(weight), Some(depth)) => tested_list(weight, depth),
+        (Some(weight), Some(depth)) => asked_listing(weight, depth),
         _ => Err(WordsFault::Usage),
     }
 }
@@ -106,9 +106,11 @@ pub fn read_words(words: &[String]) -> Result<Command, WordsFault>
     ensures in_range { IfOk result IsInRange }
 {
     match words {
-        [name, modulus] if name.as_bytes() == b"dual".as_slice() => dual(number(modulus.as_str())),
+        [name, modulus] if name.as_bytes() == b"dual".as_slice() => {
+            asked_dual(number_word(modulus.as_str()))
+        },
         [name, weight, depth] if name.as_bytes() == b"list".as_slice() => {
-            list(number(weight.as_str()), number(depth.as_str()))
+            asked_list(number_word(weight.as_str()), number_word(depth.as_str()))
         }
         _ => Err(WordsFault::Usage),
     }
