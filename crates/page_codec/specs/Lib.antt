@@ -1,0 +1,5 @@
+pub mod Spelling
+pub mod Bounds
+pub mod Tests
+pub mod Places
+pub mod Inner
