@@ -1,0 +1,16 @@
+mod SumLemmas
+mod Adding
+mod GatheredRows
+mod Inverting
+mod EarliestFaults
+mod Halving
+mod ColsLemmas
+mod Summing
+mod LesserWords
+mod SortedWords
+mod MoreRows
+mod ShuffleSteps
+mod Converting
+mod PlacedWords
+mod TestedWords
+mod Telling
