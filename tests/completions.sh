@@ -1,0 +1,58 @@
+#!/usr/bin/env bash
+# Asks the completions for bash and, where it is there, for zsh what may follow some words.
+cd "$(dirname "$0")/../completions" || exit 1
+. ./mzv.bash
+passed=0 failed=0
+
+# offers WANTED WORD..: what is offered for the last of the words
+offers() {
+    local wanted=$1 COMPREPLY=()
+    shift
+    COMP_WORDS=("$@") COMP_CWORD=$(($# - 1))
+    _mzv
+    if [[ ${COMPREPLY[*]} == "$wanted" ]]; then
+        passed=$((passed + 1))
+    else
+        failed=$((failed + 1))
+        echo "mzv ${*:2}: offers '${COMPREPLY[*]}', and not '$wanted'"
+    fi
+}
+
+offers "dual list" mzv ""
+offers "dual" mzv d
+offers "2 20 21 22 23 24" mzv list 2
+offers "1 2 3" mzv list 4 ""
+offers "" mzv list 1 ""
+offers "" mzv list x ""
+offers "" mzv dual ""
+offers "" mzv list 4 3 ""
+# describes WANTED WORD..: the same for zsh, whose own functions are replaced by ones that print what they are given
+describes() {
+    local wanted=$1 printed
+    shift
+    printed=$(zsh -f -c '
+        words=("$@") CURRENT=$#
+        _describe() { echo ${(P)2%%:*} }
+        _values() { shift; echo $@ }
+        _message() { echo $1 }
+        functions[complete_it]=$(<./_mzv)
+        complete_it' zsh "$@")
+    if [[ $printed == "$wanted" ]]; then
+        passed=$((passed + 1))
+    else
+        failed=$((failed + 1))
+        echo "zsh, mzv ${*:2}: offers '$printed', and not '$wanted'"
+    fi
+}
+
+if command -v zsh >/dev/null 2>&1; then
+    describes "dual list" mzv ""
+    describes "2 3 4 5 6 7 8 9 10 11 12 13 14 15 16 17 18 19 20 21 22 23 24" mzv list ""
+    describes "1 2 3" mzv list 4 ""
+    describes "" mzv list 25 ""
+    describes "modulus, from 3 to 9223372036854775807" mzv dual ""
+else
+    echo "zsh is missing: its completion is not asked"
+fi
+echo "$passed passed, $failed failed"
+exit $((failed > 0))

@@ -1,0 +1,72 @@
+#!/usr/bin/env python3
+"""Runs every command that the documents show with its output, and compares.
+
+    tests/documents.py PATH_TO_MZV
+
+In README.md and docs/ a line `$ mzv ..`, or one of a pipe with `mzv` in it, in a block of code is typed at the top of the repository,
+and what follows it, up to the next such line or the end of the block, is what it prints. A line `..` stands for any lines. Each file
+of examples/ that ends with .sh has its output beside it. The last line is 'N passed, M failed'.
+"""
+import os
+import re
+import subprocess
+import sys
+import tempfile
+
+ROOT = os.path.dirname(os.path.dirname(os.path.abspath(__file__)))
+
+
+def documents():
+    """README.md and the pages of docs/."""
+    yield os.path.join(ROOT, "README.md")
+    for folder, _, files in sorted(os.walk(os.path.join(ROOT, "docs"))):
+        for file in sorted(files):
+            if file.endswith(".md"):
+                yield os.path.join(folder, file)
+
+
+def shown(path):
+    """The commands with `mzv` that a page shows, each with the lines that it prints."""
+    with open(path, encoding="utf-8") as page:
+        blocks = re.findall(r"^```[^\n]*\n(.*?)^```", page.read(), re.M | re.S)
+    for block in blocks:
+        for part in re.split(r"^\$ ", block, flags=re.M)[1:]:
+            command, *lines = part.splitlines()
+            if re.search(r"(^|[|;('] *)mzv\b", command):
+                yield command, lines
+
+
+def scripts():
+    """The scripts of examples/, each with the lines that it prints."""
+    folder = os.path.join(ROOT, "examples")
+    for file in sorted(os.listdir(folder)):
+        if file.endswith(".sh"):
+            with open(os.path.join(folder, file[:-3] + ".out")) as output:
+                yield "sh examples/" + file, output.read().splitlines()
+
+
+def is_shown(lines, printed):
+    """Whether the lines are those that were printed; `..` stands for any number of lines."""
+    pattern = "".join(r"(?:.*\n)*" if line == ".." else re.escape(line) + "\n" for line in lines)
+    return re.fullmatch(pattern, printed) is not None
+
+
+def main():
+    mzv = os.path.abspath(sys.argv[1])
+    commands = [(os.path.relpath(path, ROOT), *found) for path in documents() for found in shown(path)]
+    commands += [("examples", *found) for found in scripts()]
+    failed = 0
+    with tempfile.TemporaryDirectory() as work:
+        os.symlink(mzv, os.path.join(work, "mzv"))
+        environment = dict(os.environ, PATH=work + os.pathsep + os.environ["PATH"])
+        for page, command, lines in commands:
+            done = subprocess.run(["bash", "-c", command], cwd=ROOT, env=environment, capture_output=True, text=True, timeout=60)
+            if not is_shown(lines, done.stdout):
+                failed += 1
+                print("%s: %s\n  prints %r\n  is shown with %r" % (page, command, done.stdout, "\n".join(lines)))
+    print("%d passed, %d failed" % (len(commands) - failed, failed))
+    sys.exit(failed > 0)
+
+
+if __name__ == "__main__":
+    main()
