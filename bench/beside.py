@@ -1,11 +1,13 @@
 #!/usr/bin/env python3
 """Builds proved programs and their plain twins, and times them in turn.
 
-    bench/beside.py NAME.. [RUNS]
+    bench/beside.py NAME[:WORD..].. [RUNS]
 
-NAME is a folder of bench/ with `proved.txt`, the main file of a Rattle program, `deps`, the crates that it uses, `proofs/`,
-its proof files with the ending .txt, and `plain.rs`, the twin. The program is built over a copy of crates/ in a folder of its own, so that nothing here is a
-part of the gate. The best run counts for each; take the ratio.
+NAME is a folder of bench/ with `proved.txt`, the main file of a Rattle program, `deps`, the crates that it uses, `proofs/`, its
+proof files with the ending .txt, `plain.rs`, the twin, and sometimes `input.py`, which is called with the words and writes what
+both read. The program is built over a copy of crates/ in a folder of its own, so that nothing here is a part of the gate. The
+best run counts for each; take the ratio. Of some programs parts are timed apart: these write the name of each part and its
+nanoseconds to the standard error.
 """
 import os
 import shutil
@@ -34,41 +36,75 @@ def build_proved(source, work):
         os.makedirs(to, exist_ok=True)
         for file in files:
             shutil.copy(os.path.join(folder, file), os.path.join(to, file[:-4] + ".antt"))
-    subprocess.run(["rt", "run"], cwd=crate, check=True, stdout=subprocess.DEVNULL, stderr=subprocess.DEVNULL)
-    return os.path.join(crate, "out", "bench_" + name)
+    # Without input some programs end with a code of their own, so what counts is that the program is there.
+    subprocess.run(["rt", "run"], cwd=crate, stdin=subprocess.DEVNULL, stdout=subprocess.DEVNULL, stderr=subprocess.DEVNULL)
+    program = os.path.join(crate, "out", "bench_" + name)
+    if not os.path.exists(program):
+        sys.exit("%s is not proved: call rt check in a copy" % name)
+    return program
 
 
 def build_plain(name, work):
     plain = os.path.join(work, "plain")
-    subprocess.run(["rustc", "-O", "-o", plain, os.path.join(HERE, name, "plain.rs")], check=True)
+    subprocess.run(["rustc", "--edition", "2021", "-O", "-o", plain, os.path.join(HERE, name, "plain.rs")], check=True)
     return plain
 
 
-def timed(program):
-    """The seconds of a run, and what it printed."""
-    begin = time.perf_counter()
-    told = subprocess.run([program], check=True, capture_output=True).stdout
-    return time.perf_counter() - begin, told
+def write_input(name, words, path):
+    """Writes what both programs read, nothing where the folder does not say."""
+    script = os.path.join(HERE, name, "input.py")
+    with open(path, "wb") as given:
+        if os.path.exists(script):
+            subprocess.run([sys.executable, script] + words, check=True, stdout=given)
+
+
+def timed(program, given):
+    """The seconds of a run and of its parts, and what it printed."""
+    with open(given, "rb") as read:
+        begin = time.perf_counter()
+        run = subprocess.run([program], check=True, stdin=read, capture_output=True)
+        seconds = {"all": time.perf_counter() - begin}
+    parts = run.stderr.decode().split()
+    seconds.update({part: int(n) / 1e9 for part, n in zip(parts[::2], parts[1::2])})
+    return seconds, run.stdout
+
+
+def build(tasks, work):
+    """The two programs of each task and its input, by the task."""
+    programs, inputs, built = {}, {}, {}
+    for task in tasks:
+        name, *words = task.split(":")
+        if name not in built:
+            folder = os.path.join(work, name)
+            os.mkdir(folder)
+            built[name] = {"proved": build_proved(os.path.join(HERE, name), folder), "plain": build_plain(name, folder)}
+        programs[task] = built[name]
+        inputs[task] = os.path.join(work, task + ".input")
+        write_input(name, words, inputs[task])
+    return programs, inputs
+
+
+def tell(task, runs):
+    """Writes the least time of each program, whole and of each part, and their ratio."""
+    assert len({told for kind in runs for _, told in runs[kind]}) == 1, "the two differ"
+    for part in runs["proved"][0][0]:
+        proved, plain = (min(seconds[part] for seconds, _ in runs[kind]) for kind in ("proved", "plain"))
+        called = task if part == "all" else "%s, %s" % (task, part)
+        print("%s: proved %.2f ms, plain %.2f ms, ratio %.2f" % (called, proved * 1e3, plain * 1e3, proved / plain))
 
 
 def main():
-    words = sys.argv[1:]
-    runs = int(words.pop()) if words[-1].isdigit() else 7
+    tasks = sys.argv[1:]
+    rounds = int(tasks.pop()) if tasks[-1].isdigit() else 7
     with tempfile.TemporaryDirectory() as work:
-        programs = {}
-        for name in words:
-            folder = os.path.join(work, name)
-            os.mkdir(folder)
-            programs[name, "proved"] = build_proved(os.path.join(HERE, name), folder)
-            programs[name, "plain"] = build_plain(name, folder)
-        rows = {which: [] for which in programs}
-        for _ in range(runs):
-            for which, program in programs.items():
-                rows[which].append(timed(program))
-        for name in words:
-            assert len({told for kind in ("proved", "plain") for _, told in rows[name, kind]}) == 1, "the two differ"
-            proved, plain = (min(rows[name, kind])[0] for kind in ("proved", "plain"))
-            print("%s: proved %.3f s, plain %.3f s, ratio %.2f" % (name, proved, plain, proved / plain))
+        programs, inputs = build(tasks, work)
+        runs = {task: {"proved": [], "plain": []} for task in tasks}
+        for _ in range(rounds):
+            for task in tasks:
+                for kind, program in programs[task].items():
+                    runs[task][kind].append(timed(program, inputs[task]))
+        for task in tasks:
+            tell(task, runs[task])
 
 
 if __name__ == "__main__":

@@ -1,5 +1,6 @@
 //! The same lists in plain Rust, for comparison.
 use std::cmp::Ordering;
+use std::time::Instant;
 
 /// A word: its letters in the upper 24 of 29 bits, the first one highest, 0 for x and 1 for y, and the weight in the lowest five.
 #[derive(Clone, Copy, PartialEq, Eq, PartialOrd, Ord)]
@@ -32,6 +33,7 @@ impl Word {
 }
 
 struct Column {
+    word: Word,
     factors: [Word; 12],
     len: usize,
     ranks: u32,
@@ -55,7 +57,7 @@ fn rank(w: Word) -> u32 {
 
 /// The Lyndon factors of a word, by Duval's algorithm.
 fn column(w: Word) -> Column {
-    let mut column = Column { factors: [Word(0); 12], len: 0, ranks: 0, depth: w.depth() };
+    let mut column = Column { word: w, factors: [Word(0); 12], len: 0, ranks: 0, depth: w.depth() };
     let n = w.weight();
     let mut i = 0;
     while i < n {
@@ -94,26 +96,69 @@ fn push_columns(columns: &mut Vec<Column>, front: Word, more: u32, depth: u32) {
     }
 }
 
-fn columns(w: u32, d: u32) -> Vec<Column> {
-    let mut columns = Vec::new();
-    push_columns(&mut columns, Word(0).push(0), w - 2, d - 1);
-    columns.sort_by(lead_order);
-    columns
+/// The columns in lead order, and of each word, by increasing words, the place of its column.
+struct Columns {
+    list: Vec<Column>,
+    words: Vec<Word>,
+    places: Vec<u32>,
+}
+
+impl Columns {
+    fn new(w: u32, d: u32) -> Columns {
+        let mut list = Vec::new();
+        push_columns(&mut list, Word(0).push(0), w - 2, d - 1);
+        let words: Vec<Word> = list.iter().map(|column| column.word).collect();
+        list.sort_by(lead_order);
+        let mut places = vec![0; words.len()];
+        for (i, column) in list.iter().enumerate() {
+            places[words.binary_search(&column.word).unwrap()] = i as u32;
+        }
+        Columns { list, words, places }
+    }
+
+    fn place_of_word(&self, w: Word) -> Option<u32> {
+        self.words.binary_search(&w).ok().map(|k| self.places[k])
+    }
 }
 
 fn sum_of(w: u32, d: u32) -> u64 {
-    columns(w, d).iter().fold(0u64, |sum, p| {
+    Columns::new(w, d).list.iter().fold(0u64, |sum, p| {
         let told = p.len as u64 * 32 + p.factors[..p.len].iter().map(|f| f.depth() as u64).sum::<u64>();
         sum.wrapping_mul(31).wrapping_add(told)
     })
 }
 
-fn main() {
+fn lists() -> u64 {
     let (w, d) = std::hint::black_box((13, 12));
     let (v, e) = std::hint::black_box((24, 4));
     let mut sum = 0u64;
     for _ in 0..50 {
         sum = sum.wrapping_add(sum_of(w, d)).wrapping_add(sum_of(v, e));
     }
-    println!("{sum}");
+    sum
+}
+
+fn places(columns: &Columns, words: &[Word]) -> u64 {
+    let mut sum = 0u64;
+    for _ in 0..50 {
+        let placed = std::hint::black_box(words).iter().fold(0u64, |sum, w| match columns.place_of_word(*w) {
+            Some(place) => sum.wrapping_mul(31).wrapping_add(place as u64),
+            None => sum,
+        });
+        sum = sum.wrapping_add(placed);
+    }
+    sum
+}
+
+fn main() {
+    let columns = Columns::new(13, 12);
+    let words = columns.words.clone();
+    let start = Instant::now();
+    let listed = lists();
+    let made = start.elapsed().as_nanos();
+    let start = Instant::now();
+    let placed = places(&columns, &words);
+    let found = start.elapsed().as_nanos();
+    println!("{listed} {placed}");
+    eprintln!("lists {made} places {found}");
 }
