@@ -25,6 +25,3 @@ pub use lead_order::leads;
 pub use preferred::{MAX_PREFERRED, Preferred};
 pub use rank_rule::RankRule;
 pub use ranks::{Mode, Preference, rank};
-
-#[cfg(test)]
-mod tests;

@@ -13,10 +13,8 @@ mod lines;
 mod list;
 mod refusals;
 mod status;
-#[cfg(test)]
-mod tests;
 mod writing;
 
-pub use command_line::{Command, ParamFault, WordsFault, read_words};
+pub use command_line::{Command, WordsFault, read_words};
 pub use commands::run;
 pub use status::Status;

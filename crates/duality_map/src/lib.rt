@@ -8,5 +8,3 @@ pub use duality::{dual, representative};
 pub use zeta_model::duality_laws;
 
 mod duality;
-#[cfg(test)]
-mod tests;

@@ -26,5 +26,3 @@ mod row_echelon;
 mod standing;
 mod sums;
 mod sweeping;
-#[cfg(test)]
-mod tests;

@@ -6,8 +6,6 @@
 
 mod file_disk;
 mod standard;
-#[cfg(test)]
-mod tests;
 
 pub use file_disk::FileDisk;
 pub use standard::{StdSink, StdSource};

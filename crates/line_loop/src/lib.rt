@@ -8,8 +8,6 @@
 mod answering;
 mod conversation;
 mod replier;
-#[cfg(test)]
-mod tests;
 
 pub use conversation::{Ended, LIMIT, answer_lines};
 pub use replier::Replier;

@@ -20,6 +20,3 @@ pub use laws::{
 pub use normal::{is_in_span, normal_form};
 pub use reduced::{is_forward, is_reduced};
 pub use rows::{entry, number_at, same, same_row};
-
-#[cfg(test)]
-mod tests;

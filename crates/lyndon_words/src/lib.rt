@@ -11,6 +11,4 @@ pub use monomial::Monomial;
 mod factorise;
 mod lyndon_list;
 mod monomial;
-#[cfg(test)]
-mod tests;
 mod words;

@@ -6,15 +6,16 @@
 //! It stands on std alone, and on `thiserror` for the text of its error.
 #![tactic(auto)]
 
+mod crashing;
 mod disk;
+mod held;
 mod history;
 mod mem_disk;
 mod script;
 mod sink;
 mod source;
-#[cfg(test)]
-mod tests;
 
+pub use crashing::Pick;
 pub use disk::Disk;
 pub use mem_disk::MemDisk;
 pub use sink::{MemSink, Sink, write_all};

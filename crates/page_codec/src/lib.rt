@@ -27,6 +27,3 @@ pub use parts::{
 };
 pub use walk::Walk;
 pub use writing::encode;
-
-#[cfg(test)]
-mod tests;

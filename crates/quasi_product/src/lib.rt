@@ -19,5 +19,3 @@ mod merging;
 mod products;
 mod rows;
 mod sums;
-#[cfg(test)]
-mod tests;

@@ -13,5 +13,3 @@ mod fault;
 mod laws;
 mod regularise;
 mod shuffles;
-#[cfg(test)]
-mod tests;

@@ -19,5 +19,3 @@ mod listings;
 mod name_text;
 mod name_value;
 mod names;
-#[cfg(test)]
-mod tests;

@@ -14,6 +14,3 @@ mod pairs;
 pub use key::Key;
 pub use laws::rows_are_known_by_their_entries;
 pub use pairs::{Combination, Pairs, Row};
-
-#[cfg(test)]
-mod tests;

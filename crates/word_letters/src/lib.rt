@@ -17,7 +17,5 @@ mod laws;
 mod order;
 mod parse;
 mod parts;
-#[cfg(test)]
-mod tests;
 mod text;
 mod word;

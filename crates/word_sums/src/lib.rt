@@ -9,8 +9,6 @@
 
 mod laws;
 mod least_failing;
-#[cfg(test)]
-mod tests;
 mod word_sum;
 
 pub use laws::terms_are_known_by_their_coefficients;

@@ -21,6 +21,3 @@ pub enum Letter {
     X,
     Y,
 }
-
-#[cfg(test)]
-mod tests;

@@ -1,0 +1,12 @@
+//! The reduced rows of all listed relations of a table, made in memory.
+//!
+//! The value of each name of the listing in turn becomes a row over the table's columns, which is offered to an elimination; its reduced
+//! list is the rows. Contracts say by `table_model` which list that is, and at which relation the work is broken. The crate stands on
+//! `relation_list` for names and values, on `lyndon_polys` for rows of sums, and on `echelon` for the elimination.
+#![tactic(auto)]
+
+mod fault;
+mod making;
+
+pub use fault::RowsFault;
+pub use making::reduced_rows;
