@@ -5,3 +5,4 @@ pub mod Moments
 pub mod Traces
 pub mod Inner
 pub mod Kept
+pub mod Picks

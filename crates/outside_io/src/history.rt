@@ -4,6 +4,7 @@ ghost use Rattle.outside_io.specs.Moments.{IsImage, overlaid, writing, cutting, 
 ghost use Rattle.outside_io.specs.Traces.{Trace, step};
 ghost use Rattle.outside_io.specs.Inner.{after_change};
 
+use crate::held::{Held, held_after};
 use std::alloc::{AllocError, Global};
 use std::marker::Model;
 
@@ -65,6 +66,14 @@ impl History {
             Some(bytes) => bytes,
             None => &self.start,
         }
+    }
+
+    /// The moment now.
+    pub fn held(&self, alloc: Global) -> Result<Held, AllocError>
+        ensures held { IfOk result (λ h. h ≡ self.now.now) }
+        ensures synced { IsImage self.now.now self.now.now.synced }
+    {
+        held_after(alloc, &self.start, &self.changes)
     }
 
     // A change that leaves these contents.
@@ -147,7 +156,12 @@ impl History {
 }
 
 // The bytes over the old ones, and past their end.
-fn over(alloc: Global, old: &[u8], at: usize, bytes: &[u8]) -> Result<Vec<u8>, AllocError>
+pub(crate) fn over(
+    alloc: Global,
+    old: &[u8],
+    at: usize,
+    bytes: &[u8],
+) -> Result<Vec<u8>, AllocError>
     requires { at ≤ length old.now }
     ensures { IfOk result (λ next. next.items ≡ overlaid old.now at bytes.now) }
 {

@@ -1,14 +1,17 @@
 //! A disk in memory, whose calls fail as they are told to.
-ghost use Rattle.std.specs.Prelude.{◌≡◌, ◌≤◌, ◌<◌, [], length, take, drop, min, IfOk, is_err, if◌then◌else◌, false, Some};
+ghost use Rattle.std.specs.Prelude.{◌≡◌, ◌≤◌, ◌<◌, [], length, take, drop, min, IfOk, is_err, if◌then◌else◌, false, None, Some};
 ghost use Rattle.outside_io.specs.Causes.{HasCause};
 ghost use Rattle.outside_io.specs.Moments.{IsImage, writing, cutting, settled};
 ghost use Rattle.outside_io.specs.Traces.{step, Written, CutOff, Synced};
+ghost use Rattle.outside_io.specs.Picks.{IsPicked};
 ghost use Rattle.outside_io.specs.Kept.{Kept, Changes, called, is_refused, failed};
 
+use crate::crashing::Pick;
+use crate::held::filled;
 use crate::history::History;
 use crate::script::Script;
 use crate::{Disk, Failed};
-use std::alloc::Global;
+use std::alloc::{AllocError, Global};
 use std::marker::Model;
 
 /// A disk in memory. A call fails exactly where it is listed, is stopped or finds no memory.
@@ -49,6 +52,31 @@ impl MemDisk {
         ensures { result.now ≡ self.now.trace.now.contents }
     {
         self.history.contents()
+    }
+
+    // The image that is picked.
+    fn image(&self, pick: Pick) -> Result<Vec<u8>, AllocError>
+        ensures image { IfOk result (λ bytes. IsImage self.now.trace.now bytes.items) }
+        ensures picked { IfOk result (λ bytes. IsPicked pick self.now.trace.now bytes.items) }
+    {
+        let held = self.history.held(self.alloc)?;
+        match pick {
+            Pick::Synced => Ok(held.into_synced()),
+            Pick::Read => Vec::from_slice(self.alloc, self.history.contents()),
+            Pick::Filled(byte) => filled(self.alloc, &held, byte),
+        }
+    }
+
+    /// The disk after a crash that leaves the picked image: nothing is pending there, no call came yet, and none is to fail.
+    pub fn crash(&self, pick: Pick) -> Result<MemDisk, AllocError>
+        ensures settled { IfOk result (λ d. d.trace ≡ record { now = settled d.trace.now.contents; past = [] }) }
+        ensures image { IfOk result (λ d. IsImage self.now.trace.now d.trace.now.contents) }
+        ensures picked { IfOk result (λ d. IsPicked pick self.now.trace.now d.trace.now.contents) }
+        ensures counts { IfOk result (λ d. d.counts ≡ record { calls = 0; fails = []; changes = 0; stop = None; is_stopped = false; faults = 0; starved = 0 }) }
+    {
+        let bytes = self.image(pick)?;
+        let none = Vec::new(self.alloc);
+        Ok(MemDisk::new(self.alloc, bytes, none, None))
     }
 
     /// How many calls found no memory. The count stops at 2^64 - 1.
