@@ -1,0 +1,2 @@
+pub mod NewtonSteps
+pub mod Reductions
