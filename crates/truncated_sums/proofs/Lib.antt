@@ -1,0 +1,9 @@
+pub mod Without
+pub mod ListSums
+pub mod Truncating
+pub mod WordIndices
+pub mod StuffleSums
+pub mod Listing
+pub mod InverseOf
+pub mod RunningSums
+pub mod TermSums
