@@ -1,0 +1,13 @@
+pub mod SoundGrammar
+pub mod CompleteGrammar
+pub mod LineLemmas
+pub mod ReadLemmas
+pub mod WeightLemmas
+pub mod InverseLemmas
+pub mod MeaningLemmas
+pub mod ScanLemmas
+pub mod GivingLemmas
+pub mod TotalLemmas
+pub mod FormedLemmas
+pub mod BoundLemmas
+pub mod OneMeaning

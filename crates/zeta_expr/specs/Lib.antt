@@ -1,0 +1,12 @@
+pub mod Forms
+pub mod Places
+pub mod Grammar
+pub mod Tails
+pub mod Readings
+pub mod Drafts
+pub mod Faults
+pub mod Weights
+pub mod Meaning
+pub mod Inner
+pub mod Limits
+pub mod LineMeaning
