@@ -1,0 +1,4 @@
+pub mod MeantWords
+pub mod AcceptedWords
+pub mod RowsLeft
+pub mod LineSums
