@@ -1,0 +1,3 @@
+mod OfferedValues
+mod NamedValues
+mod Answering

@@ -1,0 +1,79 @@
+use Rattle.std.proofs.Common.{◌≡◌, ◌≤◌, refl, length, sym, subst, arith}
+use Rattle.relation_list.specs.Listings.{listing_of}
+use Rattle.echelon.specs.Lists.{lead_at, row_at, AreReduced}
+use Rattle.echelon.specs.Finishes.{SameSpanOf}
+use Rattle.table_model.specs.ListedSpan.{values_of, count_of}
+use Rattle.table_model.specs.ReducedRows.{IsReducedRows, IsUnbroken, BreaksFirst}
+use Rattle.table_rows.proofs.NamedValues.{few_names, item_named, items_are, count_is}
+use Rattle.table_rows.proofs.OfferedValues.{reduced_rows_of}
+use Rattle.table_rows.proofs.Answering.{same_told}
+use Rattle.table_rows.proofs.making.reduced_rows.Goals as goal
+
+pub overflow_cast-n : goal.overflow_cast-n
+overflow_cast-n g c =
+    let x = c.columns-columns.result.now in
+    let names = c.deref-name-items.result.now in
+    let few : length (listing_of x.weight x.depth) ≤ 1179648 =
+    few_names x.weight x.depth (omega (arith, c.weight.ensures.weight, c.weight.ensures.least)) (omega (arith, c.weight.ensures.weight, c.weight.ensures.most))
+    (omega (arith, c.len.ensures.count, c.len.ensures.within)) in
+    let is : names ≡ listing_of x.weight x.depth =
+    items_are names c.in-Ok.names.items c.weight.result c.depth.result x x c.deref-name-items.ensures.value c.in-Ok.ensures c.weight.ensures.weight
+    c.depth.ensures.depth refl in
+    let small : length names ≤ 1179648 = subst (λ xs. length xs ≤ 1179648) (sym is) few in
+    omega (arith, small, c.loop-n-test.true)
+
+pub offer_value-requires-clause-named : goal.offer_value-requires-clause-named
+offer_value-requires-clause-named g c =
+    let columns = c.args.table.now.columns in
+    let names = c.deref-name-items.result.now in
+    let is : names ≡ listing_of columns.weight columns.depth =
+    items_are names c.in-Ok.names.items c.weight.result c.depth.result c.columns-columns.result.now columns c.deref-name-items.ensures.value c.in-Ok.ensures
+    c.weight.ensures.weight c.depth.ensures.depth c.columns-columns.ensures.columns in
+    item_named names columns.weight columns.depth c.loop-n.n c.name-item.result is c.loop-n-test.true c.name-item.is
+
+pub returns-in-Err-offer_value-clause-no_inverse : goal.returns-in-Err-offer_value-clause-no_inverse
+returns-in-Err-offer_value-clause-no_inverse g c = λ lead n e.
+    let columns = c.args.table.now.columns in
+    let names = c.deref-name-items.result.now in
+    let is : names ≡ listing_of columns.weight columns.depth =
+    items_are names c.in-Ok.names.items c.weight.result c.depth.result c.columns-columns.result.now columns c.deref-name-items.ensures.value c.in-Ok.ensures
+    c.weight.ensures.weight c.depth.ensures.depth c.columns-columns.ensures.columns in
+    let told = c.in-Err-offer_value.ensures.no_inverse lead n (same_told _ _ e) in
+    let m = g.R.Ring.modulus c.args.table.now.ring in (
+      omega (arith, told.0, count_is names columns is, c.loop-n-test.true),
+      subst (λ k. BreaksFirst m columns (values_of m columns) k lead) (sym told.0) told.1,
+    )
+
+pub returns-in-Ok-reduced-clause-ok : goal.returns-in-Ok-reduced-clause-ok
+returns-in-Ok-reduced-clause-ok g c =
+    let t = c.args.table.now in
+    let columns = t.columns in
+    let m = g.R.Ring.modulus t.ring in
+    let value = g.R.Ring.value t.ring in
+    let names = c.deref-name-items.result.now in
+    let is : names ≡ listing_of columns.weight columns.depth =
+    items_are names c.in-Ok.names.items c.weight.result c.depth.result c.columns-columns.result.now columns c.deref-name-items.ensures.value c.in-Ok.ensures
+    c.weight.ensures.weight c.depth.ensures.depth c.columns-columns.ensures.columns in
+    let all : c.loop-n.n ≡ count_of columns = omega (arith, count_is names columns is, c.loop-n.auto.n-end, c.loop-n-test.false) in
+    let so_far = c.loop-n.invariant in
+    let kept = c.loop-n.echelon.rows in
+    let list = c.in-Ok-reduced.rows.rows in
+    let told = c.in-Ok-reduced.ensures in
+    let reduced : AreReduced m value list =
+    subst (λ r. AreReduced (g.R.Ring.modulus r) (g.R.Ring.value r) list) so_far.ring told.ok.reduced in
+    let same : SameSpanOf m value kept list =
+    subst (λ r. SameSpanOf (g.R.Ring.modulus r) (g.R.Ring.value r) kept list) so_far.ring told.span in
+    subst (λ n. IsReducedRows m columns (values_of m columns) n (length list) (lead_at list) (row_at value list)) all
+    (reduced_rows_of m value columns so_far.is_table so_far.converts c.loop-n.n kept list so_far.span reduced same)
+
+pub returns-in-Ok-reduced-clause-fits : goal.returns-in-Ok-reduced-clause-fits
+returns-in-Ok-reduced-clause-fits g c =
+    let t = c.args.table.now in
+    let columns = t.columns in
+    let m = g.R.Ring.modulus t.ring in
+    let names = c.deref-name-items.result.now in
+    let is : names ≡ listing_of columns.weight columns.depth =
+    items_are names c.in-Ok.names.items c.weight.result c.depth.result c.columns-columns.result.now columns c.deref-name-items.ensures.value c.in-Ok.ensures
+    c.weight.ensures.weight c.depth.ensures.depth c.columns-columns.ensures.columns in
+    let all : c.loop-n.n ≡ count_of columns = omega (arith, count_is names columns is, c.loop-n.auto.n-end, c.loop-n-test.false) in
+    subst (IsUnbroken m columns (values_of m columns)) all c.loop-n.invariant.unbroken

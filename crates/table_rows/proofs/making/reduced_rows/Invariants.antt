@@ -1,0 +1,5 @@
+use Rattle.table_rows.specs.Inner.{HasOffered}
+use Rattle.table_rows.proofs.making.reduced_rows.Given as goal
+
+abbrev pub invariant-loop-n : goal.invariant-loop-n
+invariant-loop-n g l = HasOffered (g.R.Ring.modulus l.table.ring) (g.R.Ring.value l.table.ring) l.table l.n l.echelon

@@ -1,0 +1,101 @@
+//! The rows of the listed relations, offered one after the other.
+ghost use Rattle.std.specs.Prelude.{◌≡◌, ℕ, ◌+◌, ◌<◌, ◌≤◌, IsTrue, IfOk, OnOk, IsErrOf, Some, length, slice_get};
+ghost use Rattle.sparse_rows.specs.Entries.{AllIn, IsBelow};
+ghost use Rattle.relation_list.specs.Names.{is_name_of, weight_of_name, depth_of_name};
+ghost use Rattle.relation_list.specs.Listings.{listing_of};
+ghost use Rattle.relation_list.specs.Values.{value_of};
+ghost use Rattle.echelon.specs.Lists.{entries_of, lead_at, row_at};
+ghost use Rattle.echelon.specs.States.{IsRowList};
+ghost use Rattle.table_model.specs.Conversion.{IsCols};
+ghost use Rattle.table_model.specs.ListedSpan.{values_of, count_of};
+ghost use Rattle.table_model.specs.ReducedRows.{IsReducedRows, IsUnbroken, BreaksFirst};
+ghost use Rattle.table_rows.specs.Inner.{HasOffered};
+
+use crate::fault::RowsFault;
+use echelon::{OfferFault, ReducedRows, RowEchelon};
+use lyndon_polys::{LyndonTable, OutFault};
+use relation_list::{RelName, listing, value};
+use residues::Ring;
+use sparse_rows::Row;
+use std::alloc::{AllocError, Global};
+
+/// The reduced rows of all listed relations of the table's weight and depth, over its columns and its ring.
+///
+/// `NoInverse { value, n }` exactly where the work is broken, and first at relation `n`: what the earlier relations leave of it leads
+/// with the residue `value`, which has no inverse. `Memory` where memory is wanting.
+pub fn reduced_rows<R: Ring>(
+    alloc: Global,
+    table: &LyndonTable<R>,
+) -> Result<ReducedRows<R>, RowsFault>
+    ensures ok { IfOk result (λ list. IsReducedRows (R.modulus table.now.ring) table.now.columns (values_of (R.modulus table.now.ring) table.now.columns)
+        (count_of table.now.columns) (length list.rows) (lead_at list.rows) (row_at (R.value table.now.ring) list.rows)) }
+    ensures width { IfOk result (λ list. IsRowList (R.modulus table.now.ring) (R.has table.now.ring) (R.value table.now.ring) R.zero
+        (length table.now.columns.list) list.rows) }
+    ensures ring { IfOk result (λ list. list.ring ≡ table.now.ring) }
+    ensures no_inverse { (lead n : ℕ) → IsErrOf result (RowsFault.NoInverse lead n)
+        → (n < count_of table.now.columns) × BreaksFirst (R.modulus table.now.ring) table.now.columns (values_of (R.modulus table.now.ring) table.now.columns) n lead }
+    ensures fits { OnOk result (IsUnbroken (R.modulus table.now.ring) table.now.columns (values_of (R.modulus table.now.ring) table.now.columns) (count_of table.now.columns)) }
+{
+    let columns = table.columns();
+    let names = match listing(alloc, columns.weight(), columns.depth()) {
+        Ok(names) => names,
+        Err(fault) => return Err(RowsFault::Memory(fault)),
+    };
+    let mut echelon = RowEchelon::new(alloc, *table.ring(), columns.len());
+    for (n, name) in names.iter().enumerate() {
+        if let Err(fault) = offer_value(alloc, &mut echelon, table, n as u32, name) {
+            return Err(fault);
+        }
+    }
+    match echelon.reduced() {
+        Ok(rows) => Ok(rows),
+        Err(fault) => Err(RowsFault::Memory(fault)),
+    }
+}
+
+/// Offers the row of the value of relation `n`, whose name it is.
+fn offer_value<R: Ring>(
+    alloc: Global,
+    echelon: &mut RowEchelon<R>,
+    table: &LyndonTable<R>,
+    n: u32,
+    name: &RelName,
+) -> Result<(), RowsFault>
+    requires so_far { HasOffered (R.modulus table.now.ring) (R.value table.now.ring) table.now n echelon.old }
+    requires named { slice_get (listing_of table.now.columns.weight table.now.columns.depth) n ≡ Some name.now }
+    ensures ok { OnOk result (HasOffered (R.modulus table.now.ring) (R.value table.now.ring) table.now (n + 1) echelon.new) }
+    ensures no_inverse { (lead k : ℕ) → IsErrOf result (RowsFault.NoInverse lead k)
+        → (k ≡ n) × BreaksFirst (R.modulus table.now.ring) table.now.columns (values_of (R.modulus table.now.ring) table.now.columns) n lead }
+{
+    let row = match value_row(alloc, table, name) {
+        Ok(row) => row,
+        Err(fault) => return Err(RowsFault::Memory(fault)),
+    };
+    match echelon.offer(n, &row) {
+        Ok(_) => Ok(()),
+        Err(OfferFault::NoInverse { value, n }) => Err(RowsFault::NoInverse { value, n }),
+        Err(OfferFault::Memory(fault)) => Err(RowsFault::Memory(fault)),
+    }
+}
+
+/// The row of the value of a name of the table's weight and depth.
+fn value_row<R: Ring>(
+    alloc: Global,
+    table: &LyndonTable<R>,
+    name: &RelName,
+) -> Result<Row<R>, AllocError>
+    requires is_name { IsTrue (is_name_of name.now) }
+    requires weight { weight_of_name name.now ≡ table.now.columns.weight }
+    requires depth { depth_of_name name.now ≤ table.now.columns.depth }
+    ensures cols { IfOk result (λ row. IsCols (R.modulus table.now.ring) table.now.columns (value_of (R.modulus table.now.ring) name.now)
+        (entries_of (R.value table.now.ring) row)) }
+    ensures below { IfOk result (IsBelow (λ k. k) (length table.now.columns.list)) }
+    ensures in_ring { IfOk result (AllIn (R.has table.now.ring)) }
+{
+    let sum = value(alloc, table.ring(), name)?;
+    match table.to_columns(&sum) {
+        Ok(row) => Ok(row),
+        Err(OutFault::OutOfTable(_)) => unreachable!(),
+        Err(OutFault::Memory(fault)) => Err(fault),
+    }
+}
