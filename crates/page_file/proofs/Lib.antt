@@ -1,0 +1,9 @@
+pub mod Passing
+pub mod Pieces
+pub mod Reading
+pub mod Opened
+pub mod Fronts
+pub mod Steps
+pub mod Paging
+pub mod Images
+pub mod Keeping

@@ -1,0 +1,5 @@
+pub mod Files
+pub mod Notes
+pub mod Stays
+pub mod Puts
+pub mod Inner
