@@ -1,5 +1,5 @@
 -- Two accepted lines get the same reply exactly where their sums differ by duality.
-use Rattle.std.proofs.Common.{◌≡◌, ℕ, ◌+◌, ◌-◌, ◌%◌, ◌^◌, ◌<◌, ◌≤◌, true, Option, Some, None, List, [], ◌∷◌, ◌++◌, length, map, refl, sym, ap, ◌∙◌, arith}
+use Rattle.std.proofs.Common.{◌≡◌, ℕ, ◌+◌, ◌-◌, ◌%◌, ◌^◌, ◌<◌, ◌≤◌, true, List, [], ◌∷◌, ◌++◌, length, map, sym, ap, ◌∙◌, arith}
 use Rattle.std.specs.List.{AllByRecursion}
 use Rattle.std.proofs.lemmas.Nat.{mod_below}
 use Rattle.zeta_model.specs.declared.Letter.{Letter}
@@ -8,18 +8,20 @@ use Rattle.zeta_model.specs.Duality.{representative_of}
 use Rattle.zeta_model.specs.Modular.{Same}
 use Rattle.dual_reply.specs.Grammar.{Term, IsAccepted}
 use Rattle.dual_reply.specs.Sums.{signed_of, folded_sum}
-use Rattle.dual_reply.specs.Inner.{terms_of, entries_of, folded_entry}
+use Rattle.dual_reply.specs.Inner.{entries_of, folded_entry}
 use Rattle.dual_reply.specs.Listing.{Entry}
 use Rattle.word_sums.specs.Terms.{coefficient_of}
-use Rattle.dual_reply.specs.Reply.{sum_text, refusal, reply_to, reply_of}
-use Rattle.dual_reply.specs.Canonical.{IsCanonical, IsExact, IsFolded, IsTold, TellsSums}
-use Rattle.dual_reply.specs.declared.reader.Signed.{Signed}
-use Rattle.dual_reply.proofs.AcceptedWords.{and-true}
-use Rattle.dual_reply.proofs.AcceptedLines.{IsOpen, terms_of-accepted, accepted-terms_of, terms_are_open}
+use Rattle.dual_reply.specs.Reply.{sum_text, reply_to, reply_of}
+use Rattle.dual_reply.specs.Refusals.{begins_with_digit}
+use Rattle.dual_reply.specs.Canonical.{IsCanonical, IsApart, IsFolded, IsTold, TellsSums}
+use Rattle.dual_reply.specs.declared.words.Signed.{Signed}
+use Rattle.line_tokens.proofs.MarkLemmas.{and-true}
+use Rattle.dual_reply.proofs.OpenWords.{IsOpen, terms_are_open}
+use Rattle.dual_reply.proofs.Readings.{of_accepted, of_refused, decided, never_both, one_refusal}
 use Rattle.dual_reply.proofs.DualityLemmas.{is_admissible-representative_of, length-representative_of}
 use Rattle.dual_reply.proofs.FoldLemmas.{corrections, scaled, folded_sums_same, difference_corrected}
 use Rattle.dual_reply.proofs.ListingLaws.{sign_number-bounds, with_terms_all, entries_of-IsListing, listing_unique, listing_is}
-use Rattle.dual_reply.proofs.TextLaws.{IsPrinted, sum_text-injective, sum_text-refusal}
+use Rattle.dual_reply.proofs.TextLaws.{IsPrinted, sum_text-injective, sum_text-digit, refusal_text-letter}
 
 abbrev AreOpen : List Signed → Type 0
 AreOpen ss = AllByRecursion (λ s. IsOpen s.word) ss
@@ -63,7 +65,7 @@ module _ (m : ℕ) (low : 3 ≤ m) (high : m < 2 ^ 63) where
   printed ss h = with_terms_all m low IsPrinted printed_sum [] ss tt (printed_entries ss h)
 
   reply_of-accepted : (terms : List Term) (line : List ℕ) → IsAccepted terms line → reply_of m line ≡ sum_text (entries_of m (map signed_of terms))
-  reply_of-accepted terms line a = ap (reply_to m) (terms_of-accepted terms line a)
+  reply_of-accepted terms line a = ap (reply_to m) (of_accepted line terms a)
 
   listings_same : (ss ts : List Signed) → ((w : List Letter) → Same m (folded_sum m ss w) (folded_sum m ts w)) → entries_of m ss ≡ entries_of m ts
   listings_same ss ts h =
@@ -94,16 +96,12 @@ module _ (m : ℕ) (low : 3 ≤ m) (high : m < 2 ^ 63) where
         λ d. r1 ∙ ap sum_text (listings_same ss ts (λ r. folded_sums_same r m ss ts d.0 (omega arith) d.2)) ∙ sym r2,
       )
 
-  not_refused : (line : List ℕ) (o : Option (List Signed)) → terms_of line ≡ o → reply_to m o ≡ refusal → (terms : List Term) → IsAccepted terms line → ⊥
-  not_refused line o e r terms a = sum_text-refusal (entries_of m (map signed_of terms)) (ap (reply_to m) (sym (sym e ∙ terms_of-accepted terms line a))
-      ∙ r)
-
-  refused : (line : List ℕ) (o : Option (List Signed)) → terms_of line ≡ o → ((terms : List Term) → IsAccepted terms line → ⊥) → reply_to m o ≡ refusal
-  refused line None e n = refl
-  refused line (Some ss) e n = let r = accepted-terms_of line ss e in absurd (n r.0 r.1)
-
-  exact : IsExact m
-  exact line = (not_refused line (terms_of line) refl, refused line (terms_of line) refl)
+  apart : IsApart m
+  apart = (
+    λ line terms a. ap begins_with_digit (reply_of-accepted terms line a)
+        ∙ sum_text-digit (entries_of m (map signed_of terms)) (printed (map signed_of terms) (terms_are_open terms line a)),
+    refusal_text-letter,
+  )
 
   folded : IsFolded m
   folded line terms a = (entries_of m (map signed_of terms), entries_of-IsListing m low (map signed_of terms), reply_of-accepted terms line a)
@@ -118,4 +116,12 @@ module _ (m : ℕ) (low : 3 ≤ m) (high : m < 2 ^ 63) where
       (ap sum_text (sym p) ∙ e ∙ ap sum_text q) ∙ sym q
 
 pub tells_sums : (m : ℕ) → 3 ≤ m → m < 2 ^ 63 → TellsSums m
-tells_sums m low high = record { canonical = canonical m low high; exact = exact m low high; folded = folded m low high; told = told m low high }
+tells_sums m low high = record {
+  canonical = canonical m low high;
+  exact = λ line refusal r. ap (reply_to m) (of_refused line refusal r);
+  whole = decided;
+  once = λ line refusal r. ((λ terms a. never_both line terms refusal a r), λ other s. one_refusal line refusal other r s);
+  apart = apart m low high;
+  folded = folded m low high;
+  told = told m low high;
+}

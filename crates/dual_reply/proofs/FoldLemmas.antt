@@ -6,7 +6,7 @@ use Rattle.zeta_model.proofs.ModularLemmas.{same-add, same-add_right, same-mul_l
 use Rattle.zeta_model.specs.Sums.{single, difference}
 use Rattle.zeta_model.proofs.SumLemmas.{continued-append}
 use Rattle.dual_reply.specs.Sums.{sign_number, word_sum, folded_sum, dual_sum}
-use Rattle.dual_reply.specs.declared.reader.Signed.{Signed}
+use Rattle.dual_reply.specs.declared.words.Signed.{Signed}
 use Rattle.zeta_model.proofs.DualityLaws.{representative_of-dual_of}
 use Rattle.duality_map.proofs.DualLetters.{representative_cases}
 use Rattle.dual_reply.proofs.SumLemmas.{W, single-same, single-other, word_cases, folded_at, by_kind, folded_at-none, folded_at-self, folded_at-pair}

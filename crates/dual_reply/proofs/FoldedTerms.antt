@@ -18,7 +18,7 @@ use Rattle.word_sums.specs.Terms.{coefficient_of, AllIn}
 use Rattle.word_sums.proofs.KnownTerms.{coefficient_of-IsPermutation}
 use Rattle.dual_reply.specs.Sums.{sign_number, numbers_of, folded_sum}
 use Rattle.dual_reply.specs.Listing.{Entry, listing_cmp, IsListing}
-use Rattle.dual_reply.specs.declared.reader.Signed.{Signed}
+use Rattle.dual_reply.specs.declared.words.Signed.{Signed}
 
 abbrev W : Type 0
 W = List Letter

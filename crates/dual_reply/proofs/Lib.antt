@@ -1,8 +1,16 @@
 pub mod DualityLemmas
 pub mod SumLemmas
-pub mod AcceptedWords
-pub mod CompleteReading
-pub mod SoundReading
+pub mod IndexNumbers
+pub mod ClosedZetas
+pub mod HeavyTerms
+pub mod SoundGrammar
+pub mod MadeLines
+pub mod LineLemmas
+pub mod FirstOnes
+pub mod OneTokens
+pub mod Readings
+pub mod PlainLines
+pub mod OpenWords
 pub mod ListingLemmas
 pub mod ListingLaws
 pub mod ListingOrder
@@ -11,5 +19,4 @@ pub mod TextLemmas
 pub mod KeptLemmas
 pub mod FoldLemmas
 pub mod TextLaws
-pub mod AcceptedLines
 pub mod CanonicalLaw

@@ -13,7 +13,7 @@ use Rattle.dual_reply.specs.Sums.{sign_number, folded_sum}
 use Rattle.dual_reply.specs.Listing.{Entry, listing_cmp, IsListing}
 use Rattle.dual_reply.specs.Inner.{with_entry, with_terms, folded_entry, entries_of}
 use Rattle.word_sums.specs.Terms.{coefficient_of}
-use Rattle.dual_reply.specs.declared.reader.Signed.{Signed}
+use Rattle.dual_reply.specs.declared.words.Signed.{Signed}
 use Rattle.dual_reply.proofs.SumLemmas.{single-same, single-other}
 use Rattle.dual_reply.proofs.ListingLemmas.{IsBehind, IsIncreasing, AreReduced, behind_behind, turned, listing_same, listing_itself}
 use Rattle.dual_reply.proofs.ListingLemmas.{with_entry_increasing, with_entry_all, coefficient_of-with_entry}

@@ -1,16 +1,21 @@
--- The text of a sum determines its entries.
-use Rattle.std.proofs.Common.{◌≡◌, ℕ, ◌+◌, ◌%◌, ◌^◌, ◌<◌, ◌≤◌, true, List, [], ◌∷◌, ◌++◌, length, map, get_or, refl, sym, ap, subst, ◌∙◌, append_assoc, arith}
+-- The text of a sum determines its entries, and begins with a digit.
+use Rattle.std.proofs.Common.{◌≡◌, ℕ, ◌+◌, ◌%◌, ◌^◌, ◌<◌, ◌≤◌, true, false, List, [], ◌∷◌, ◌++◌, length, map, refl, sym, ap, subst, ◌∙◌, append_assoc, arith}
 use Rattle.std.specs.Prelude.{codes}
 use Rattle.std.specs.List.{AllByRecursion, join_with_byte}
 use Rattle.std.specs.Fmt.{decimal}
-use Rattle.std.proofs.lemmas.Fmt.{decimal_by_steps, decimal_injective}
+use Rattle.std.proofs.lemmas.Fmt.{decimal_by_steps, decimal_injective, decimal_nonempty}
+use Rattle.std.proofs.lemmas.Bool.{le-leb}
 use Rattle.zeta_model.specs.declared.Letter.{Letter}
 use Rattle.zeta_model.specs.declared.Letter.TheVariants.{X, Y}
 use Rattle.zeta_model.specs.Words.{ends_with_y}
 use Rattle.zeta_model.specs.Indices.{index_from, index_of, word_text}
 use Rattle.word_letters.proofs.IndexLemmas.{has_index-ends, word_text-injective}
+use Rattle.line_tokens.proofs.MarkLemmas.{true-and}
 use Rattle.dual_reply.specs.Listing.{Entry}
-use Rattle.dual_reply.specs.Reply.{entry_text, sum_text, refusal}
+use Rattle.dual_reply.specs.Refusals.{begins_with_digit}
+use Rattle.dual_reply.specs.Reply.{entry_text, sum_text, refusal_text}
+use Rattle.dual_reply.specs.declared.refusal.Refusal.{Refusal}
+use Rattle.dual_reply.specs.declared.refusal.Refusal.TheVariants.{LineTooLong, Syntax, NotAdmissible, WeightIs}
 use Rattle.dual_reply.proofs.TextLemmas.{behind_text, join-cons}
 
 -- the byte stands nowhere in the text
@@ -139,18 +144,6 @@ no_star xs e es h q = never 42 xs (decimal e.1) (word_text e.0 ++ behind_text 43
 zero_free : IsFree 42 (codes "0")
 zero_free = ((λ h. absurd (omega arith)), tt)
 
-refusal_free : IsFree 42 refusal
-refusal_free = (
-  (λ h. absurd (omega arith)),
-  (
-    (λ h. absurd (omega arith)),
-    (
-      (λ h. absurd (omega arith)),
-      ((λ h. absurd (omega arith)), ((λ h. absurd (omega arith)), ((λ h. absurd (omega arith)), ((λ h. absurd (omega arith)), tt)))),
-    ),
-  ),
-)
-
 none_is_none : (f : Entry) (fs : List Entry) → codes "0" ≡ sum_text (f ∷ fs) → ⊥
 none_is_none f fs e = no_star (codes "0") f fs zero_free e
 
@@ -166,12 +159,21 @@ sum_text-injective [] (f ∷ fs) h k e = absurd (none_is_none f fs e)
 sum_text-injective (e ∷ es) [] h k q = absurd (none_is_none e es (sym q))
 sum_text-injective (e ∷ es) (f ∷ fs) h k q = some_are_same e f es fs h k q
 
-zero_is_no_refusal : codes "0" ≡ refusal → ⊥
-zero_is_no_refusal h = let e : ◌≡◌ {A = ℕ} 48 114 = ap (λ l. get_or l 0 0) h in absurd (omega arith)
+-- the text of a sum begins with a digit, and that of no refusal does
+digits_first : (xs ys : List ℕ) → AllByRecursion IsDigit xs → 0 < length xs → begins_with_digit (xs ++ ys) ≡ true
+digits_first [] ys h l = absurd (omega arith)
+digits_first (x ∷ xs) ys h l = true-and _ _ (le-leb 48 x h.0.0) (le-leb x 57 h.0.1)
 
-some_is_no_refusal : (e : Entry) (es : List Entry) → sum_text (e ∷ es) ≡ refusal → ⊥
-some_is_no_refusal e es h = no_star refusal e es refusal_free (sym h)
+pub sum_text-digit : (es : List Entry) → AllByRecursion IsPrinted es → begins_with_digit (sum_text es) ≡ true
+sum_text-digit [] h = refl
+sum_text-digit (e ∷ es) h =
+    let r = h.0.residue in
+    ap begins_with_digit (starred e es)
+    ∙ digits_first (decimal e.1) (42 ∷ (word_text e.0 ++ behind_text 43 (map entry_text es))) (decimal_digits e.1 (omega arith))
+    (decimal_nonempty e.1 (omega arith))
 
-pub sum_text-refusal : (es : List Entry) → sum_text es ≡ refusal → ⊥
-sum_text-refusal [] h = zero_is_no_refusal h
-sum_text-refusal (e ∷ es) h = some_is_no_refusal e es h
+pub refusal_text-letter : (refusal : Refusal) → begins_with_digit (refusal_text refusal) ≡ false
+refusal_text-letter LineTooLong = refl
+refusal_text-letter (Syntax at) = refl
+refusal_text-letter (NotAdmissible at) = refl
+refusal_text-letter (WeightIs weight) = refl

@@ -1,108 +1,117 @@
 -- What single steps of the code answer. Public clauses cite these through `reply_of` alone, and `Canonical.antt` says of that what it is by
 -- the grammar and the listing, so a reader need not believe them.
-use Rattle.std.specs.Prelude.{ℕ, ◌+◌, ◌-◌, ◌*◌, ◌%◌, Bool, true, false, ◌&&◌, ◌==◌, if◌then◌else◌, Option, Some, None, option_and_then, List, [], ◌∷◌}
-use Rattle.std.specs.Prelude.{◌++◌, length, sum, slice_index, nat_lt, nat_le}
+use Rattle.std.specs.Prelude.{ℕ, suc, ◌+◌, ◌%◌, Bool, true, false, not, ◌&&◌, ◌||◌, ◌==◌, if◌then◌else◌, Option}
+use Rattle.std.specs.Prelude.{Some, None, is_some, option_map, Result, Ok, Err}
+use Rattle.std.specs.Prelude.{List, [], ◌∷◌, ◌++◌, length, sum, nat_lt, nat_le}
 use Rattle.std.specs.List.{list_all}
+use Rattle.std.specs.Coded.{Coded, code_by, coded×, coded_ℕ, coded_bool, coded_list, coded_option}
+use Rattle.std.proofs.Common.{refl}
 use Rattle.std.specs.declared.cmp.Ordering.{Ordering}
 use Rattle.std.specs.declared.cmp.Ordering.TheVariants.{Less, Equal, Greater}
 use Rattle.zeta_model.specs.declared.Letter.{Letter}
+use Rattle.zeta_model.specs.Words.{is_admissible, word_code}
 use Rattle.zeta_model.specs.Duality.{representative_of}
-use Rattle.zeta_model.specs.Indices.{word_of_index}
-use Rattle.dual_reply.specs.Grammar.{is_blank}
+use Rattle.line_tokens.specs.declared.marks.Mark.{Mark}
+use Rattle.line_tokens.specs.declared.marks.Mark.TheVariants.{Plus, Minus, Star, Slash, Caret, Open, Close, Comma, Letter as LetterZ}
+use Rattle.line_tokens.specs.declared.spots.Spot.TheVariants.{Between}
+use Rattle.line_tokens.specs.Tokens.{is_blank}
+use Rattle.line_tokens.specs.Machine.{Maker, passed, read}
+use Rattle.dual_reply.specs.Refusals.{begins_with_digit}
 use Rattle.dual_reply.specs.Sums.{signed, sign_number}
 use Rattle.dual_reply.specs.Listing.{Entry, listing_cmp}
+use Rattle.dual_reply.specs.Places.{places}
 use Rattle.dual_reply.specs.declared.place.Place.{Place}
-use Rattle.dual_reply.specs.declared.place.Place.TheVariants.{Start, AfterSign, AfterLetter, BeforeNumber, InNumber, AfterNumber, AfterZeta}
-use Rattle.dual_reply.specs.declared.reader.Signed.{Signed}
+use Rattle.dual_reply.specs.declared.place.Place.TheVariants.{Start}
+use Rattle.dual_reply.specs.declared.refusal.Refusal.{Refusal}
+use Rattle.dual_reply.specs.declared.refusal.Refusal.TheVariants.{LineTooLong, Syntax, NotAdmissible, WeightIs}
+use Rattle.dual_reply.specs.declared.words.Signed.{Signed}
 
--- ---- the terms of a line, read byte by byte
+-- ---- the terms of a line
 
--- where a reader stands, the numbers of the index that it reads, and the terms that it has read
-pub record State : Type 0 where
-  pub place : Place
-  pub index : List ℕ
+-- the words of the zetas of weight at most 24, the weight of the first other zeta, and the sign and the numbers of the last zeta
+pub record DraftForm : Type 0 where
   pub terms : List Signed
+  pub heavy : Option ℕ
+  pub negative : Bool
+  pub index : List ℕ
 
-abbrev pub is_digit : ℕ → Bool
-is_digit b = nat_le 48 b && nat_le b 57
+abbrev pub start : DraftForm
+start = record { terms = []; heavy = None; negative = false; index = [] }
 
-abbrev pub is_first_digit : ℕ → Bool
-is_first_digit b = nat_le 49 b && nat_le b 57
+abbrev pub is_index : List ℕ → Bool
+is_index ks = nat_lt 0 (length ks) && list_all (λ k. nat_lt 0 k) ks
 
--- positive numbers, the first at least 2, of sum at most 24
-abbrev pub is_accepted : List ℕ → Bool
-is_accepted ks = nat_lt 1 (slice_index ks 0) && list_all (λ k. nat_lt 0 k) ks && nat_le (sum ks) 24
+-- the first of two numbers that is there
+abbrev pub earlier : Option ℕ → ℕ → Option ℕ
+earlier None k = Some k
+earlier (Some j) k = Some j
 
-abbrev pub accepted_word : List ℕ → Option (List Letter)
-accepted_word ks = if is_accepted ks then Some (word_of_index ks) else None
+-- with the zeta of the last index
+abbrev pub with_zeta : DraftForm → DraftForm
+with_zeta d =
+    if is_index d.index
+    then (if nat_le (sum d.index) 24 then record d { terms = d.terms ++ signed d.negative d.index ∷ [] }
+    else record d { heavy = earlier d.heavy (sum d.index) })
+    else d
 
--- where a byte takes a reader that stands before a term, in it between two tokens, or behind it
-abbrev pub after_start : ℕ → Option Place
-after_start b = if b == 122 then Some (AfterLetter false) else
-    (if is_blank b then Some Start else (if b == 43 then Some (AfterSign false) else (if b == 45 then Some (AfterSign true) else None)))
+abbrev pub with_number : ℕ → DraftForm → DraftForm
+with_number n d = record d { index = d.index ++ n ∷ [] }
 
-abbrev pub after_sign : Bool → ℕ → Option Place
-after_sign negative b = if b == 122 then Some (AfterLetter negative) else (if is_blank b then Some (AfterSign negative) else None)
+abbrev pub on_mark : Mark → ℕ → DraftForm → DraftForm
+on_mark Plus n d = record d { negative = false }
+on_mark Minus n d = record d { negative = true }
+on_mark Open n d = record d { index = [] }
+on_mark Comma n d = with_number n d
+on_mark Close n d = with_zeta (with_number n d)
+on_mark Star n d = d
+on_mark Slash n d = d
+on_mark Caret n d = d
+on_mark LetterZ n d = d
 
-abbrev pub after_zeta : ℕ → Option Place
-after_zeta b = if b == 43 then Some (AfterSign false) else (if b == 45 then Some (AfterSign true) else (if is_blank b then Some AfterZeta else None))
+abbrev pub maker : Maker Place DraftForm
+maker = record { on_mark = λ p m n d. on_mark m n d; at_end = λ p n d. d }
 
-abbrev pub before_number : Bool → ℕ → Option Place
-before_number negative b = if is_first_digit b then Some (InNumber negative (b - 48)) else (if is_blank b then Some (BeforeNumber negative) else None)
+-- each zeta is of weight at most 24, and its word is admissible
+abbrev pub is_plain : DraftForm → Bool
+is_plain d = not (is_some d.heavy) && list_all (λ s. is_admissible s.word) d.terms
 
--- the state at a place, where there is one
-abbrev pub at : List ℕ → List Signed → Option Place → Option State
-at ks ts None = None
-at ks ts (Some p) = Some (record { place = p; index = ks; terms = ts })
+-- the byte of the first number 1 that stands behind a bracket that opens and any blanks; true where such a bracket stands just before
+abbrev pub first_one : Bool → List ℕ → Option ℕ
+first_one opened [] = None
+first_one opened (b ∷ bytes) =
+    if b == 49 && not (begins_with_digit bytes) && opened then Some 0 else option_map suc (first_one (b == 40 || (is_blank b && opened)) bytes)
 
--- the bracket opens an index
-abbrev pub after_letter : Bool → List ℕ → List Signed → ℕ → Option State
-after_letter negative ks ts b = if b == 40 then at [] ts (Some (BeforeNumber negative)) else
-    (if is_blank b then at ks ts (Some (AfterLetter negative)) else None)
+abbrev pub weighed : Option ℕ → List Signed → Result (List Signed) Refusal
+weighed None terms = Ok terms
+weighed (Some weight) terms = Err (WeightIs weight)
 
--- a zeta that closes has to be accepted
-abbrev pub closed : Bool → List ℕ → List Signed → Option State
-closed negative ks ts = if is_accepted ks then at ks (ts ++ signed negative ks ∷ []) (Some AfterZeta) else None
+abbrev pub judged : Option ℕ → Option ℕ → List Signed → Result (List Signed) Refusal
+judged None heavy terms = weighed heavy terms
+judged (Some at) heavy terms = Err (NotAdmissible at)
 
-abbrev pub after_number : Bool → List ℕ → List Signed → ℕ → Option State
-after_number negative ks ts b = if b == 44 then at ks ts (Some (BeforeNumber negative)) else
-    (if b == 41 then closed negative ks ts else (if is_blank b then at ks ts (Some (AfterNumber negative)) else None))
+-- the reading of a line of which this was made, or of none of the grammar, of which so many bytes were passed
+abbrev pub reading_made : List ℕ → ℕ → Option DraftForm → Result (List Signed) Refusal
+reading_made line at None = Err (Syntax at)
+reading_made line at (Some d) = judged (first_one false line) d.heavy d.terms
 
--- a number has at most three digits
-abbrev pub in_number : Bool → ℕ → List ℕ → List Signed → ℕ → Option State
-in_number negative n ks ts b = if is_digit b && nat_lt n 100 then at ks ts (Some (InNumber negative (10 * n + (b - 48)))) else after_number negative
-    (ks ++ n ∷ []) ts b
+-- the words of the zetas of a line with their signs, or why it is refused
+unfoldable pub reading_of : List ℕ → Result (List Signed) Refusal
+reading_of line =
+    if nat_lt 4096 (length line) then Err LineTooLong
+    else reading_made line (passed places (Between Start) line) (read places maker (Between Start) 0 start line)
 
-abbrev pub next_at : Place → List ℕ → List Signed → ℕ → Option State
-next_at Start ks ts b = at ks ts (after_start b)
-next_at (AfterSign negative) ks ts b = at ks ts (after_sign negative b)
-next_at (AfterLetter negative) ks ts b = after_letter negative ks ts b
-next_at (BeforeNumber negative) ks ts b = at ks ts (before_number negative b)
-next_at (InNumber negative n) ks ts b = in_number negative n ks ts b
-next_at (AfterNumber negative) ks ts b = after_number negative ks ts b
-next_at AfterZeta ks ts b = at ks ts (after_zeta b)
+-- a word with its sign is stored as its parts
+abbrev pub signed_code : Coded Signed
+signed_code = code_by (Bool × List Letter) (coded× coded_bool word_code) (λ s. (s.negative, s.word)) (λ p. record { negative = p.0; word = p.1 }) (λ _. refl)
 
--- a line ends behind a zeta
-abbrev pub ending : Place → List Signed → Option (List Signed)
-ending Start ts = None
-ending (AfterSign negative) ts = None
-ending (AfterLetter negative) ts = None
-ending (BeforeNumber negative) ts = None
-ending (InNumber negative n) ts = None
-ending (AfterNumber negative) ts = None
-ending AfterZeta ts = Some ts
-
--- the terms of a line, from a state on
-abbrev pub resume : State → List ℕ → Option (List Signed)
-resume s [] = ending s.place s.terms
-resume s (b ∷ bytes) = option_and_then (λ t. resume t bytes) (next_at s.place s.index s.terms b)
-
-abbrev pub start : State
-start = record { place = Start; index = []; terms = [] }
-
--- none where the line is not accepted
-unfoldable pub terms_of : List ℕ → Option (List Signed)
-terms_of line = if nat_lt 4096 (length line) then None else resume start line
+-- a draft is stored as its parts
+abbrev pub draft_code : Coded DraftForm
+draft_code =
+    code_by (List Signed × (Option ℕ × (Bool × List ℕ)))
+    (coded× (coded_list signed_code) (coded× (coded_option coded_ℕ) (coded× coded_bool (coded_list coded_ℕ))))
+    (λ d. (d.terms, (d.heavy, (d.negative, d.index))))
+    (λ t. record { terms = t.0; heavy = t.1.0; negative = t.1.1.0; index = t.1.1.1 })
+    (λ _. refl)
 
 -- ---- the entries of a folded sum, put in one after another
 

@@ -1,4 +1,7 @@
+pub mod Places
+pub mod Tails
 pub mod Grammar
+pub mod Refusals
 pub mod Sums
 pub mod Listing
 pub mod Inner

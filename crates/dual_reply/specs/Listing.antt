@@ -10,7 +10,7 @@ use Rattle.zeta_model.specs.Words.{word_cmp}
 use Rattle.zeta_model.specs.Sums.{SameSum}
 use Rattle.word_sums.specs.Terms.{coefficient_of}
 use Rattle.dual_reply.specs.Sums.{folded_sum}
-use Rattle.dual_reply.specs.declared.reader.Signed.{Signed}
+use Rattle.dual_reply.specs.declared.words.Signed.{Signed}
 
 -- a word with its residue
 abbrev pub Entry : Type 0

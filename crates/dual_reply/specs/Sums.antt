@@ -7,7 +7,7 @@ use Rattle.zeta_model.specs.Duality.{dual_of, representative_of}
 use Rattle.zeta_model.specs.Sums.{Sum, single, difference, continued, SameSum}
 use Rattle.zeta_model.specs.Indices.{word_of_index}
 use Rattle.dual_reply.specs.Grammar.{Term}
-use Rattle.dual_reply.specs.declared.reader.Signed.{Signed}
+use Rattle.dual_reply.specs.declared.words.Signed.{Signed}
 
 -- the word of an index, with its sign
 abbrev pub signed : Bool → List ℕ → Signed

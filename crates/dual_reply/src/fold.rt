@@ -4,7 +4,7 @@ ghost use Rattle.dual_reply.specs.Sums.{sign_number, folded_sum};
 ghost use Rattle.word_sums.specs.Terms.{coefficient_of, AllIn};
 ghost use Rattle.zeta_model.specs.declared.Letter.{Letter};
 
-use crate::reader::Signed;
+use crate::words::Signed;
 use duality_map::representative;
 use residues::Ring;
 use std::alloc::{AllocError, Global};

@@ -5,7 +5,7 @@ ghost use Rattle.std.specs.Map.{keys_of};
 ghost use Rattle.dual_reply.specs.Listing.{listing_cmp, IsListing};
 
 use crate::fold::folded_sum;
-use crate::reader::Signed;
+use crate::words::Signed;
 use residues::{Ring, WordMod};
 use std::alloc::{AllocError, Global};
 use word_letters::Word;

@@ -1,69 +1,84 @@
-//! Where a reader stands in a line, and where the next byte takes it.
-ghost use Rattle.std.specs.Prelude.{◌≡◌};
-ghost use Rattle.dual_reply.specs.Grammar.{is_blank};
-ghost use Rattle.dual_reply.specs.Inner.{after_start, after_sign, after_zeta};
+//! The places of the grammar.
+ghost use Rattle.dual_reply.specs.Places.{places, limit};
+ghost use Rattle.dual_reply.specs.Tails.{tails, alternating, holds_runs, holds_marks, limit_small};
 
-/// Where a reader stands: behind what it has read last, with the sign of the zeta that it is in, true for `-`.
+use line_tokens::{Mark, Places, Run};
+
+/// Where a reader stands: behind the token that it has read last.
 #[derive(Clone, Copy)]
 pub enum Place {
-    /// Nothing but blanks has been read.
+    /// Nothing has been read.
     Start,
     /// Behind a sign.
-    AfterSign(bool),
+    BeforeZeta,
     /// Behind the letter `z`.
-    AfterLetter(bool),
+    AfterLetter,
     /// Behind `(` or `,`.
-    BeforeNumber(bool),
-    /// Behind a digit, with the number so far.
-    InNumber(bool, u32),
-    /// Behind a number and a blank.
-    AfterNumber(bool),
+    BeforeIndex,
+    /// Behind a number of an index.
+    AfterIndex,
     /// Behind `)`.
     AfterZeta,
 }
 
-/// Whether a byte is a space, a tab or a carriage return.
-pub fn is_blank(byte: u8) -> bool
-    ensures { result ≡ is_blank byte }
-{
-    byte == b' ' || byte == b'\t' || byte == b'\r'
-}
+impl Places for Place {
+    ghost machine = { places };
 
-/// Where a byte takes a reader that has read nothing but blanks.
-pub fn after_start(byte: u8) -> Option<Place>
-    ensures { result ≡ after_start byte }
-{
-    if byte == b'z' {
-        return Some(Place::AfterLetter(false));
-    }
-    if is_blank(byte) {
-        return Some(Place::Start);
-    }
-    if byte == b'+' {
-        return Some(Place::AfterSign(false));
-    }
-    (byte == b'-').then_some(Place::AfterSign(true))
-}
+    ghost limit = { limit };
 
-/// Where a byte takes a reader that stands behind a sign.
-pub fn after_sign(negative: bool, byte: u8) -> Option<Place>
-    ensures { result ≡ after_sign negative byte }
-{
-    if byte == b'z' {
-        return Some(Place::AfterLetter(negative));
+    fn after_mark(self, mark: Mark) -> Option<Place> {
+        match self {
+            Place::Start => match mark {
+                Mark::Plus | Mark::Minus => Some(Place::BeforeZeta),
+                Mark::Letter => Some(Place::AfterLetter),
+                _ => None,
+            },
+            Place::BeforeZeta => match mark {
+                Mark::Letter => Some(Place::AfterLetter),
+                _ => None,
+            },
+            Place::AfterLetter => match mark {
+                Mark::Open => Some(Place::BeforeIndex),
+                _ => None,
+            },
+            Place::BeforeIndex => None,
+            Place::AfterIndex => match mark {
+                Mark::Comma => Some(Place::BeforeIndex),
+                Mark::Close => Some(Place::AfterZeta),
+                _ => None,
+            },
+            Place::AfterZeta => match mark {
+                Mark::Plus | Mark::Minus => Some(Place::BeforeZeta),
+                _ => None,
+            },
+        }
     }
-    is_blank(byte).then_some(Place::AfterSign(negative))
-}
 
-/// Where a byte takes a reader that stands behind a zeta.
-pub fn after_zeta(byte: u8) -> Option<Place>
-    ensures { result ≡ after_zeta byte }
-{
-    if byte == b'+' {
-        return Some(Place::AfterSign(false));
+    fn run_at(self) -> Option<Run<Place>> {
+        match self {
+            Place::BeforeIndex => Some(Run {
+                lowest: b'1',
+                more: 2,
+                next: Place::AfterIndex,
+            }),
+            _ => None,
+        }
     }
-    if byte == b'-' {
-        return Some(Place::AfterSign(true));
+
+    fn ends(self) -> bool {
+        match self {
+            Place::AfterZeta => true,
+            _ => false,
+        }
     }
-    is_blank(byte).then_some(Place::AfterZeta)
+
+    ghost productive = { tails };
+
+    ghost alternating = { alternating };
+
+    ghost holds_runs = { holds_runs };
+
+    ghost holds_marks = { holds_marks };
+
+    ghost limit_small = { limit_small };
 }

@@ -5,7 +5,7 @@ ghost use Rattle.dual_reply.specs.Reply.{reply_of};
 
 use crate::listing::listing;
 use crate::reader::terms_of;
-use crate::text::push_text;
+use crate::text::{push_refusal, push_text};
 use residues::{Ring, WordMod};
 use std::alloc::{AllocError, Global};
 
@@ -20,11 +20,11 @@ fn push_reply(
     ensures kept { take (length out.old.items) out.new.items ≡ out.old.items }
 {
     match terms_of(alloc, line)? {
-        Some(terms) => {
+        Ok(terms) => {
             let entries = listing(alloc, ring, &terms)?;
             push_text(out, &entries)
         }
-        None => out.extend_from_slice(b"refused"),
+        Err(refusal) => push_refusal(out, refusal),
     }
 }
 
@@ -33,8 +33,10 @@ fn push_reply(
 /// An accepted line has at most 4,096 bytes and is an optional sign, a zeta, then any number of a sign and a zeta,
 /// each zeta with a first index of at least 2 and a weight of at most 24. Each word is replaced by the lesser of it
 /// and its dual, coefficients are summed, and the terms are added by weight and then by increasing word, `0` where
-/// there is none. To every other line `refused` is added, and to no accepted one. `replies_are_canonical` says what
-/// the replies tell (duality: Ihara, Kaneko, Zagier 2006). After want of memory `out` is as before.
+/// there is none. To every other line its refusal is added, the first of these: `line too long`; `syntax at`, the
+/// length of its longest prefix that begins some line of that form; `not admissible at`, the byte of the first index
+/// that is 1 where the first of its zeta stands; `weight k`, that of the first zeta over 24. `replies_are_canonical`
+/// says what the replies tell (duality: Ihara, Kaneko, Zagier 2006). After want of memory `out` is as before.
 pub fn reply(
     alloc: Global,
     ring: &WordMod,
@@ -56,9 +58,10 @@ pub fn reply(
 ///
 /// `canonical`: two accepted lines get the same reply exactly where the difference of their sums of words is a
 /// combination, modulo `m`, of the sums of a word less its dual, over admissible words of weight at most 24.
-/// `exact`: a line is refused exactly where it is no accepted line. `folded`: an accepted line gets the text of the
-/// listing of its sum with each word replaced by the lesser of it and its dual. `told`: the text of such a listing
-/// determines it.
+/// `exact`: a line that is refused gets the text of its refusal. `whole`: each line is accepted or refused. `once`: no
+/// accepted line is refused, and no line has two refusals. `apart`: the reply to an accepted line begins with a digit,
+/// and the text of no refusal does. `folded`: an accepted line gets the text of the listing of its sum with each word
+/// replaced by the lesser of it and its dual. `told`: the text of such a listing determines it.
 pub fn replies_are_canonical()
     ensures { (m : ℕ) → 3 ≤ m → m < 2 ^ 63 → TellsSums m }
 {}

@@ -1,10 +1,11 @@
-//! The text of a sum.
+//! The texts of sums and of refusals.
 ghost use Rattle.std.specs.Prelude.{◌≡◌, ℕ, ◌+◌, ◌++◌, List, length, map, take, OnOk};
 ghost use Rattle.std.specs.List.{join_with_byte};
 ghost use Rattle.std.specs.Fmt.{decimal};
 ghost use Rattle.zeta_model.specs.Indices.{index_of, word_text};
-ghost use Rattle.dual_reply.specs.Reply.{behind_byte, entry_text, sum_text};
+ghost use Rattle.dual_reply.specs.Reply.{behind_byte, entry_text, sum_text, refusal_text};
 
+use crate::refusal::Refusal;
 use itoa::Buffer;
 use std::alloc::AllocError;
 use word_letters::{Letter, Word};
@@ -83,4 +84,27 @@ pub fn push_text(out: &mut Vec<u8>, entries: &[(Word, u64)]) -> Result<(), Alloc
         first = false;
     }
     Ok(())
+}
+
+/// Adds a text and a number in decimal.
+fn push_told(out: &mut Vec<u8>, text: &[u8], number: u128) -> Result<(), AllocError>
+    ensures ok { OnOk result (out.new.items ≡ out.old.items ++ (text.now ++ decimal number)) }
+    ensures kept { take (length out.old.items) out.new.items ≡ out.old.items }
+{
+    let mut buffer = Buffer::new();
+    out.extend_from_slice(text)?;
+    out.extend_from_slice(buffer.format(number).as_bytes())
+}
+
+/// Adds the text of a refusal.
+pub fn push_refusal(out: &mut Vec<u8>, refusal: Refusal) -> Result<(), AllocError>
+    ensures ok { OnOk result (out.new.items ≡ out.old.items ++ refusal_text refusal) }
+    ensures kept { take (length out.old.items) out.new.items ≡ out.old.items }
+{
+    match refusal {
+        Refusal::LineTooLong => out.extend_from_slice(b"line too long"),
+        Refusal::Syntax(at) => push_told(out, b"syntax ", at as u128),
+        Refusal::NotAdmissible(at) => push_told(out, b"not admissible ", at as u128),
+        Refusal::WeightIs(weight) => push_told(out, b"weight ", weight),
+    }
 }
