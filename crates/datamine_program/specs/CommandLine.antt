@@ -5,7 +5,7 @@ use Rattle.std.specs.Str.{all_ascii_digits}
 use Rattle.datamine_program.specs.declared.command_line.Command.{Command}
 use Rattle.column_order.specs.Columns.{column_count, HasLimits}
 use Rattle.datamine_program.specs.declared.command_line.Command.TheVariants.{Dual, List as ListOf}
-use Rattle.datamine_program.specs.declared.command_line.ParamFault.TheVariants.{Weight, Depth, Modulus, Columns}
+use Rattle.page_codec.specs.declared.fault.ParamFault.TheVariants.{Weight, Depth, Modulus, Columns}
 use Rattle.datamine_program.specs.declared.command_line.WordsFault.{WordsFault}
 use Rattle.datamine_program.specs.declared.command_line.WordsFault.TheVariants.{Usage, Param}
 

@@ -9,8 +9,8 @@ use Rattle.relation_list.specs.Listings.{listing_of}
 use Rattle.relation_list.specs.Texts.{text_of}
 use Rattle.datamine_program.specs.declared.command_line.Command.{Command}
 use Rattle.datamine_program.specs.declared.command_line.Command.TheVariants.{Dual, List as ListOf}
-use Rattle.datamine_program.specs.declared.command_line.ParamFault.{ParamFault}
-use Rattle.datamine_program.specs.declared.command_line.ParamFault.TheVariants.{Weight, Depth, Modulus, Columns}
+use Rattle.page_codec.specs.declared.fault.ParamFault.{ParamFault}
+use Rattle.page_codec.specs.declared.fault.ParamFault.TheVariants.{Weight, Depth, Modulus, NotBelow, Order, Preferred, Columns}
 use Rattle.datamine_program.specs.declared.command_line.WordsFault.{WordsFault}
 use Rattle.datamine_program.specs.declared.command_line.WordsFault.TheVariants.{Usage, Param}
 use Rattle.datamine_program.specs.declared.status.Status.{Status}
@@ -31,6 +31,9 @@ abbrev pub fault_text : ParamFault → List ℕ
 fault_text (Weight w) = codes "weight " ++ decimal w
 fault_text (Depth d) = codes "depth " ++ decimal d
 fault_text (Modulus m) = codes "modulus " ++ decimal m
+fault_text (NotBelow w m) = codes "weight " ++ (decimal w ++ (codes " not below modulus " ++ decimal m))
+fault_text Order = codes "order"
+fault_text (Preferred i) = codes "preferred " ++ decimal i
 fault_text (Columns n) = codes "columns " ++ decimal n
 
 abbrev pub param_line : ParamFault → List ℕ

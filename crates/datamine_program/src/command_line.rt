@@ -2,7 +2,7 @@
 ghost use Rattle.std.specs.Prelude.{◌≡◌, ◌==◌, map, string_bytes, slice_index, IfOk};
 ghost use Rattle.datamine_program.specs.CommandLine.{asked, number_word, asked_dual, asked_list, asked_listing, IsInRange};
 
-use column_order::{MAX_COLUMNS, count};
+use page_codec::{ParamFault, Params};
 use thiserror::Error;
 
 /// What is to be done.
@@ -13,23 +13,6 @@ pub enum Command {
     /// To print the names of the relations of a weight from 2 to 24 and of at most a depth, which is from 1 to the
     /// weight less 1.
     List { weight: u32, depth: u32 },
-}
-
-/// A parameter that fails its test.
-#[derive(Clone, Copy, Debug, PartialEq, Eq, Error)]
-pub enum ParamFault {
-    /// The weight is not from 2 to 24.
-    #[error("weight {0}")]
-    Weight(u64),
-    /// The depth is not from 1 to the weight less 1.
-    #[error("depth {0}")]
-    Depth(u64),
-    /// The modulus is not from 3 to 2^63 - 1.
-    #[error("modulus {0}")]
-    Modulus(u64),
-    /// The columns of weight and depth are more than 2,048.
-    #[error("columns {0}")]
-    Columns(u64),
 }
 
 /// Why the words ask for nothing.
@@ -63,30 +46,27 @@ fn number_word(word: &str) -> Option<u64>
 fn asked_dual(modulus: Option<u64>) -> Result<Command, WordsFault>
     ensures { result ≡ asked_dual modulus }
 {
-    match modulus {
-        None => Err(WordsFault::Usage),
-        Some(modulus) if modulus < 3 || modulus >= 1 << 63 => {
-            Err(WordsFault::Param(ParamFault::Modulus(modulus)))
-        }
-        Some(modulus) => Ok(Command::Dual { modulus }),
-    }
+    let Some(modulus) = modulus else {
+        return Err(WordsFault::Usage);
+    };
+    // The modulus is tested as that of the least table.
+    let params = Params::test(2, 1, modulus, "lex", None).map_err(WordsFault::Param)?;
+    Ok(Command::Dual {
+        modulus: params.modulus,
+    })
 }
+
+// The modulus of a table whose words alone are asked for: a prime over every weight.
+const ANY_MODULUS: u64 = (1 << 61) - 1;
 
 fn asked_listing(weight: u64, depth: u64) -> Result<Command, WordsFault>
     ensures { result ≡ asked_listing weight depth }
 {
-    if weight < 2 || weight > 24 {
-        return Err(WordsFault::Param(ParamFault::Weight(weight)));
-    }
-    if depth < 1 || depth >= weight {
-        return Err(WordsFault::Param(ParamFault::Depth(depth)));
-    }
-    let (weight, depth) = (weight as u32, depth as u32);
-    let columns = count(weight, depth);
-    if columns > MAX_COLUMNS {
-        return Err(WordsFault::Param(ParamFault::Columns(columns)));
-    }
-    Ok(Command::List { weight, depth })
+    let params = Params::test(weight, depth, ANY_MODULUS, "lex", None).map_err(WordsFault::Param)?;
+    Ok(Command::List {
+        weight: params.weight,
+        depth: params.depth,
+    })
 }
 
 fn asked_list(weight: Option<u64>, depth: Option<u64>) -> Result<Command, WordsFault>

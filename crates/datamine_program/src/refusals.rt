@@ -4,11 +4,13 @@ ghost use Rattle.outside_io.specs.Causes.{HasCause, Rose};
 ghost use Rattle.outside_io.specs.Told.{after_told, AppendsFront};
 ghost use Rattle.datamine_program.specs.Runs.{work_of, Outcome, param_line};
 ghost use Rattle.datamine_program.specs.declared.command_line.WordsFault.TheVariants.{Usage, Param};
+ghost use Rattle.page_codec.specs.declared.fault.ParamFault.TheVariants.{NotBelow};
 
+use crate::Status;
 use crate::writing::write_and_end;
-use crate::{ParamFault, Status};
 use itoa::Buffer;
 use outside_io::{Failed, Sink, write_all};
+use page_codec::ParamFault;
 
 // Writes two pieces, the second behind the first.
 fn write_both<K: Sink>(sink: &mut K, first: &[u8], second: &[u8]) -> Result<(), Failed>
@@ -31,25 +33,37 @@ fn write_number<K: Sink>(sink: &mut K, text: &[u8], number: u64) -> Result<(), F
     write_both(sink, digits.format(number).as_bytes(), b"\n")
 }
 
-// The text and the number of the line that refuses a parameter.
-fn param_text(fault: ParamFault) -> (&'static [u8], u64)
-    ensures { result.0.now ++ (decimal result.1 ++ 10 ∷ []) ≡ param_line fault }
+fn write_not_below<K: Sink>(sink: &mut K, weight: u64, modulus: u64) -> Result<(), Failed>
+    ensures ok { OnOk result (K.taken sink.new ≡ after_told (K.taken sink.old) (param_line (NotBelow weight modulus))) }
+    ensures err { OnErr result (AppendsFront (K.taken sink.old) (K.taken sink.new) (param_line (NotBelow weight modulus))) }
+    ensures cause { HasCause (K.faults sink.old) (K.faults sink.new) result }
 {
-    match fault {
-        ParamFault::Weight(weight) => (b"bad parameter: weight ", weight),
-        ParamFault::Depth(depth) => (b"bad parameter: depth ", depth),
-        ParamFault::Modulus(modulus) => (b"bad parameter: modulus ", modulus),
-        ParamFault::Columns(columns) => (b"bad parameter: columns ", columns),
-    }
+    let mut digits = Buffer::new();
+    write_both(
+        sink,
+        b"bad parameter: weight ",
+        digits.format(weight).as_bytes(),
+    )?;
+    write_number(sink, b" not below modulus ", modulus)
 }
 
+// Writes the line that refuses a parameter.
 fn write_param<K: Sink>(sink: &mut K, fault: ParamFault) -> Result<(), Failed>
     ensures ok { OnOk result (K.taken sink.new ≡ after_told (K.taken sink.old) (param_line fault)) }
     ensures err { OnErr result (AppendsFront (K.taken sink.old) (K.taken sink.new) (param_line fault)) }
     ensures cause { HasCause (K.faults sink.old) (K.faults sink.new) result }
 {
-    let (text, number) = param_text(fault);
-    write_number(sink, text, number)
+    match fault {
+        ParamFault::Weight(weight) => write_number(sink, b"bad parameter: weight ", weight),
+        ParamFault::Depth(depth) => write_number(sink, b"bad parameter: depth ", depth),
+        ParamFault::Modulus(modulus) => write_number(sink, b"bad parameter: modulus ", modulus),
+        ParamFault::NotBelow { weight, modulus } => write_not_below(sink, weight, modulus),
+        ParamFault::Order => write_all(sink, b"bad parameter: order\n"),
+        ParamFault::Preferred(piece) => {
+            write_number(sink, b"bad parameter: preferred ", piece as u64)
+        }
+        ParamFault::Columns(columns) => write_number(sink, b"bad parameter: columns ", columns),
+    }
 }
 
 // Refuses words that fit no command.

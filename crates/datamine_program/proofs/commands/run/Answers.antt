@@ -1,5 +1,5 @@
 use Rattle.std.proofs.Common.{Err, ◌∙◌, ap, sym}
-use Rattle.datamine_program.specs.declared.command_line.ParamFault.{ParamFault}
+use Rattle.page_codec.specs.declared.fault.ParamFault.{ParamFault}
 use Rattle.datamine_program.specs.declared.command_line.WordsFault.TheVariants.{Param}
 use Rattle.datamine_program.specs.Runs.{Asked}
 use Rattle.datamine_program.proofs.Outcomes.{tells_sums_of, outcome_of}
