@@ -4,10 +4,10 @@
     bench/beside.py NAME[:WORD..].. [RUNS]
 
 NAME is a folder of bench/ with `proved.txt`, the main file of a Rattle program, `deps`, the crates that it uses, `proofs/`, its
-proof files with the ending .txt, `plain.rs`, the twin, and sometimes `input.py`, which is called with the words and writes what
-both read. The program is built over a copy of crates/ in a folder of its own, so that nothing here is a part of the gate. The
-best run counts for each; take the ratio. Of some programs parts are timed apart: these write the name of each part and its
-nanoseconds to the standard error.
+proof files with the ending .txt, `plain.rs`, the twin, or `twin.txt` where that is a proved program too, and sometimes
+`input.py`, which is called with the words and writes what both read. The program is built over a copy of crates/ in a folder
+of its own, so that nothing here is a part of the gate. The best run counts for each; take the ratio. Of some programs parts
+are timed apart: these write the name of each part and its nanoseconds to the standard error.
 """
 import os
 import shutil
@@ -20,7 +20,7 @@ HERE = os.path.dirname(os.path.abspath(__file__))
 ROOT = os.path.dirname(HERE)
 
 
-def build_proved(source, work):
+def build_proved(source, work, main="proved.txt"):
     """The program of a folder, proved and built by LLVM."""
     name = os.path.basename(source)
     shutil.copytree(os.path.join(ROOT, "crates"), os.path.join(work, "crates"), ignore=shutil.ignore_patterns("out"))
@@ -29,7 +29,7 @@ def build_proved(source, work):
         listed.write("bench_%s: %s\n" % (name, open(os.path.join(source, "deps")).read().strip()))
     crate = os.path.join(work, "crates", "bench_" + name)
     os.makedirs(os.path.join(crate, "src"))
-    shutil.copy(os.path.join(source, "proved.txt"), os.path.join(crate, "src", "main.rt"))
+    shutil.copy(os.path.join(source, main), os.path.join(crate, "src", "main.rt"))
     proofs = os.path.join(source, "proofs")
     for folder, _, files in os.walk(proofs):
         to = os.path.join(crate, "proofs", os.path.relpath(folder, proofs))
@@ -44,7 +44,11 @@ def build_proved(source, work):
     return program
 
 
-def build_plain(name, work):
+def build_twin(name, work):
+    if os.path.exists(os.path.join(HERE, name, "twin.txt")):
+        folder = os.path.join(work, "twin")
+        os.mkdir(folder)
+        return build_proved(os.path.join(HERE, name), folder, "twin.txt")
     plain = os.path.join(work, "plain")
     subprocess.run(["rustc", "--edition", "2021", "-O", "-o", plain, os.path.join(HERE, name, "plain.rs")], check=True)
     return plain
@@ -77,7 +81,7 @@ def build(tasks, work):
         if name not in built:
             folder = os.path.join(work, name)
             os.mkdir(folder)
-            built[name] = {"proved": build_proved(os.path.join(HERE, name), folder), "plain": build_plain(name, folder)}
+            built[name] = {"proved": build_proved(os.path.join(HERE, name), folder), "plain": build_twin(name, folder)}
         programs[task] = built[name]
         inputs[task] = os.path.join(work, task + ".input")
         write_input(name, words, inputs[task])
