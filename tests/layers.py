@@ -4,7 +4,8 @@
     tests/layers.py
 
 The map of docs/LAYERS.md has each crate once, in a row above those of the crates that it stands on; README.md has a row for it, and
-docs/CLAIMS.md a heading or a sentence. The last line is 'N passed, M failed'.
+docs/CLAIMS.md a heading or a sentence. Crates of tests, whose names end with _tests, promise nothing, and docs/TESTING.md alone has
+a row for each. The last line is 'N passed, M failed'.
 """
 import os
 import re
@@ -34,8 +35,12 @@ def main():
     place = {name: i for i, row in enumerate(shown) for name in row}
     table = re.findall(r"^\| `(\w+)` \|", read(os.path.join(ROOT, "README.md")), re.M)
     claims = read(os.path.join(ROOT, "docs", "CLAIMS.md"))
+    tested = re.findall(r"^\| `(\w+_tests)` \|", read(os.path.join(ROOT, "docs", "TESTING.md")), re.M)
     wrong = ["docs/LAYERS.md: %s is no crate" % name for name in place if name not in crates]
+    wrong += ["docs/TESTING.md: no row for %s" % name for name in crates if name.endswith("_tests") and name not in tested]
     for name, below in crates.items():
+        if name.endswith("_tests"):
+            continue
         if sum(row.count(name) for row in shown) != 1:
             wrong.append("docs/LAYERS.md: %s does not stand there once" % name)
         wrong += ["docs/LAYERS.md: %s is not above %s" % (name, other) for other in below if place.get(name, 0) >= place.get(other, len(shown))]

@@ -18,8 +18,8 @@ SECONDS = 10
 TALK = [
     (b"z(2,1)-z(3)\n", b"0\n"),
     (b"z(3,1)+z(2)\n", b"1*z(2)+1*z(3,1)\n"),
-    (b"z(3\n", b"refused\n"),
-    (b"\n", b"refused\n"),
+    (b"z(3\n", b"syntax 3\n"),
+    (b"\n", b"syntax 0\n"),
     (b"z(2)\nz(4)\n", b"1*z(2)\n1*z(4)\n"),
     (b"z(2,1)+", b""),
     (b"z(3)\n", b"2*z(3)\n"),
