@@ -6,6 +6,7 @@ pub mod WordBits
 pub mod Pages
 pub mod Appending
 pub mod Lengths
+pub mod LongestBody
 pub mod Sizes
 pub mod Answering
 pub mod OldHeader

@@ -1,7 +1,7 @@
 -- A word by its weight and its letters as binary digits.
-use Rattle.std.proofs.Common.{◌≡◌, ℕ, zero, suc, ◌+◌, ◌*◌, ◌/◌, ◌%◌, ◌^◌, ◌<◌, ◌≤◌, ◌&&◌, List, [], ◌∷◌, ◌++◌, length, drop, ◌-◌, slice_get, Some}
+use Rattle.std.proofs.Common.{◌≡◌, ℕ, zero, suc, ◌+◌, ◌*◌, ◌/◌, ◌%◌, ◌^◌, ◌<◌, ◌≤◌, ◌&&◌, List, ◌++◌, length, Some}
 use Rattle.std.proofs.Common.{None, Bool, true, false, ltb, leb, if◌then◌else◌, refl, sym, ap, ◌∙◌, append_assoc, arith}
-use Rattle.std.proofs.Math.Nat.{div-lt_iff_lt-mul, add-mul, mul_assoc, suc-mul, mod-lt, pow-suc, pow-le-pow_right}
+use Rattle.std.proofs.Math.Nat.{div-lt_iff_lt-mul, mod-lt, pow-suc, pow-le-pow_right}
 use Rattle.std.proofs.Math.Pow.{split}
 use Rattle.std.proofs.lemmas.Nat.{pow_pos}
 use borrow.Author.Tests.{le-leb, ltb-true, lt-ltb}

@@ -9,11 +9,12 @@ ghost use Rattle.page_codec.specs.declared.params.Params.{Params};
 ghost use Rattle.page_codec.specs.Spelling.{body_of, spelling_of};
 ghost use Rattle.page_codec.specs.declared.page.Page.{Page};
 
-/// Each page has one spelling, no spelling begins another, and the longest body has 2,884,101 bytes.
+/// Each page has one spelling, no spelling begins another, and the longest body has 2,884,101 bytes: none has more, and one has so many.
 pub fn spelling_laws()
     ensures one { (p q : Page) → IsPage p → IsPage q → spelling_of p ≡ spelling_of q → p ≡ q }
     ensures no_prefix { (p q : Page) (rest : List ℕ) → IsPage p → IsPage q → spelling_of p ≡ spelling_of q ++ rest → rest ≡ [] }
     ensures longest { (p : Page) → IsPage p → length (body_of p) ≤ 2884101 }
+    ensures attained { (p : Page) × IsPage p × (length (body_of p) ≡ 2884101) }
 {}
 
 /// Where all pages of a file fit, they are few, and none stands behind a Done page.
