@@ -11,7 +11,8 @@ use Rattle.zeta_expr.specs.Faults.{IsReadFault}
 use Rattle.zeta_expr.specs.Readings.{IsReading}
 use Rattle.zeta_expr.specs.Meaning.{refusal_of, sum_of_terms, IsMeaningFault}
 use Rattle.zeta_expr.specs.LineMeaning.{means, refused, unless_refused, IsMeaning, too_long, no_line, reads}
-use Rattle.table_rewrite.specs.Inner.{IsRefusalOf, IsNoMemory}
+use Rattle.table_rewrite.specs.Refusals.{IsRefusalOf}
+use Rattle.table_rewrite.specs.Inner.{IsNoMemory}
 
 module _ (m w d : ℕ) (line : List ℕ) where
   pub read_refused : (fault : LineFault) → IsReadFault line fault → IsRefusalOf m w d line fault

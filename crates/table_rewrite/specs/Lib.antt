@@ -1,2 +1,4 @@
 pub mod Replies
+pub mod Refusals
+pub mod Telling
 pub mod Inner

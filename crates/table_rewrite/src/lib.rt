@@ -5,8 +5,10 @@
 //! `poly_print`, which prints it.
 #![tactic(auto)]
 
+pub use laws::{a_reply_answers_its_line, replies_tell};
 pub use reply::{PolyText, Reply, reply_text};
-pub use rewrite::rewrite_line;
+pub use rewrite::{rewrite_line, sum_of_line};
 
+mod laws;
 mod reply;
 mod rewrite;

@@ -8,7 +8,8 @@ ghost use Rattle.lyndon_polys.specs.Tables.{entries_of};
 ghost use Rattle.table_model.specs.Conversion.{IsTableWord, IsCols};
 ghost use Rattle.zeta_expr.specs.LineMeaning.{IsMeaning, means};
 ghost use Rattle.table_rewrite.specs.Replies.{AreOver, IsReply, IsPolyText};
-ghost use Rattle.table_rewrite.specs.Inner.{IsRefusalOf, IsNoMemory};
+ghost use Rattle.table_rewrite.specs.Refusals.{IsRefusalOf};
+ghost use Rattle.table_rewrite.specs.Inner.{IsNoMemory};
 
 use crate::reply::{PolyText, Reply};
 use echelon::ReducedRows;
@@ -20,8 +21,11 @@ use std::alloc::{AllocError, Global};
 use word_sums::WordSum;
 use zeta_expr::{LineFault, meaning, read};
 
-/// The sum of words that a line means, where each term is of weight `w` and at most `d` deep.
-fn sum_of_line<R: Ring>(
+/// The sum of words that a line means, where each term is of weight `w`, 2 to 24, and at most `d` deep.
+///
+/// The line's first refusal where it means none: `LineTooLong` and `Syntax(at)` before all others, then `NoInverse(b)`, `WeightIs(k)` and
+/// `DepthIs(k)`, each that of the first number or term as written. `Memory` where memory is wanting.
+pub fn sum_of_line<R: Ring>(
     alloc: Global,
     ring: &R,
     line: &[u8],

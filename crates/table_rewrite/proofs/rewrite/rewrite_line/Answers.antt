@@ -4,7 +4,7 @@ use Rattle.column_order.specs.Columns.{ColumnList}
 use Rattle.word_sums.specs.Terms.{coefficient_of}
 use Rattle.zeta_expr.specs.LineMeaning.{means, IsMeaning}
 use Rattle.table_rewrite.specs.declared.reply.Reply.{Reply}
-use Rattle.table_rewrite.specs.Inner.{IsRefusalOf}
+use Rattle.table_rewrite.specs.Refusals.{IsRefusalOf}
 use Rattle.table_rewrite.specs.Replies.{IsReply}
 use Rattle.table_rewrite.proofs.AcceptedWords.{none_in_line}
 use Rattle.table_rewrite.proofs.LineSums.{refusal_meant}
