@@ -1,0 +1,10 @@
+use Rattle.table_replies.proofs.TextSteps.{forms_reply}
+use Rattle.table_replies.proofs.replies.TableReplies.new.Goals as goal
+
+pub returns : goal.returns
+returns g c =
+    let ring = c.args.table.ring in
+    record {
+      replies = forms_reply g.R.Ring.zero (g.R.Ring.has ring) (g.R.Ring.value ring) (g.R.Ring.modulus ring) c.args.table.columns c.args.rows.now.rows
+          c.in_ok-forms.forms.items c.forms_of_words.ensures.table c.in_ok-forms.ensures.forms;
+    }
