@@ -2,7 +2,8 @@
 //!
 //! The value of each name of the listing in turn becomes a row over the table's columns, which is offered to an elimination; its reduced
 //! list is the rows. Contracts say by `table_model` which list that is, and at which relation the work is broken. The crate stands on
-//! `relation_list` for names and values, on `lyndon_polys` for rows of sums, and on `echelon` for the elimination.
+//! `relation_list` for names, on `kept_products` for their values, on `lyndon_polys` for rows of sums, and on `echelon` for the
+//! elimination.
 #![tactic(auto)]
 
 mod fault;

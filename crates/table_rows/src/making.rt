@@ -13,8 +13,9 @@ ghost use Rattle.table_rows.specs.Inner.{HasOffered};
 
 use crate::fault::RowsFault;
 use echelon::{OfferFault, ReducedRows, RowEchelon};
+use kept_products::{KeptProducts, value_kept};
 use lyndon_polys::{LyndonTable, OutFault};
-use relation_list::{RelName, listing, value};
+use relation_list::{RelName, listing};
 use residues::Ring;
 use sparse_rows::Row;
 use std::alloc::{AllocError, Global};
@@ -41,9 +42,10 @@ pub fn reduced_rows<R: Ring>(
         Ok(names) => names,
         Err(fault) => return Err(RowsFault::Memory(fault)),
     };
+    let mut kept = KeptProducts::new(alloc, *table.ring());
     let mut echelon = RowEchelon::new(alloc, *table.ring(), columns.len());
     for (n, name) in names.iter().enumerate() {
-        if let Err(fault) = offer_value(alloc, &mut echelon, table, n as u32, name) {
+        if let Err(fault) = offer_value(&mut echelon, table, &mut kept, n as u32, name) {
             return Err(fault);
         }
     }
@@ -53,21 +55,23 @@ pub fn reduced_rows<R: Ring>(
     }
 }
 
-/// Offers the row of the value of relation `n`, whose name it is.
+/// Offers the row of the value of relation `n`, whose name it is. Its products are kept for later values.
 fn offer_value<R: Ring>(
-    alloc: Global,
     echelon: &mut RowEchelon<R>,
     table: &LyndonTable<R>,
+    kept: &mut KeptProducts<R>,
     n: u32,
     name: &RelName,
 ) -> Result<(), RowsFault>
+    requires kept_ring { kept.old.ring ≡ table.now.ring }
     requires so_far { HasOffered (R.modulus table.now.ring) (R.value table.now.ring) table.now n echelon.old }
     requires named { slice_get (listing_of table.now.columns.weight table.now.columns.depth) n ≡ Some name.now }
+    ensures keeps_ring { kept.new.ring ≡ kept.old.ring }
     ensures ok { OnOk result (HasOffered (R.modulus table.now.ring) (R.value table.now.ring) table.now (n + 1) echelon.new) }
     ensures no_inverse { (lead k : ℕ) → IsErrOf result (RowsFault.NoInverse lead k)
         → (k ≡ n) × BreaksFirst (R.modulus table.now.ring) table.now.columns (values_of (R.modulus table.now.ring) table.now.columns) n lead }
 {
-    let row = match value_row(alloc, table, name) {
+    let row = match value_row(table, kept, name) {
         Ok(row) => row,
         Err(fault) => return Err(RowsFault::Memory(fault)),
     };
@@ -80,19 +84,21 @@ fn offer_value<R: Ring>(
 
 /// The row of the value of a name of the table's weight and depth.
 fn value_row<R: Ring>(
-    alloc: Global,
     table: &LyndonTable<R>,
+    kept: &mut KeptProducts<R>,
     name: &RelName,
 ) -> Result<Row<R>, AllocError>
+    requires kept_ring { kept.old.ring ≡ table.now.ring }
     requires is_name { IsTrue (is_name_of name.now) }
     requires weight { weight_of_name name.now ≡ table.now.columns.weight }
     requires depth { depth_of_name name.now ≤ table.now.columns.depth }
+    ensures keeps_ring { kept.new.ring ≡ kept.old.ring }
     ensures cols { IfOk result (λ row. IsCols (R.modulus table.now.ring) table.now.columns (value_of (R.modulus table.now.ring) name.now)
         (entries_of (R.value table.now.ring) row)) }
     ensures below { IfOk result (IsBelow (λ k. k) (length table.now.columns.list)) }
     ensures in_ring { IfOk result (AllIn (R.has table.now.ring)) }
 {
-    let sum = value(alloc, table.ring(), name)?;
+    let sum = value_kept(kept, name)?;
     match table.to_columns(&sum) {
         Ok(row) => Ok(row),
         Err(OutFault::OutOfTable(_)) => unreachable!(),

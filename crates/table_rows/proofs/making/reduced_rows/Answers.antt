@@ -55,7 +55,7 @@ returns-in-Ok-reduced-clause-ok g c =
     items_are names c.in-Ok.names.items c.weight.result c.depth.result c.columns-columns.result.now columns c.deref-name-items.ensures.value c.in-Ok.ensures
     c.weight.ensures.weight c.depth.ensures.depth c.columns-columns.ensures.columns in
     let all : c.loop-n.n ≡ count_of columns = omega (arith, count_is names columns is, c.loop-n.auto.n-end, c.loop-n-test.false) in
-    let so_far = c.loop-n.invariant in
+    let so_far = c.loop-n.invariant.offered in
     let kept = c.loop-n.echelon.rows in
     let list = c.in-Ok-reduced.rows.rows in
     let told = c.in-Ok-reduced.ensures in
@@ -76,4 +76,4 @@ returns-in-Ok-reduced-clause-fits g c =
     items_are names c.in-Ok.names.items c.weight.result c.depth.result c.columns-columns.result.now columns c.deref-name-items.ensures.value c.in-Ok.ensures
     c.weight.ensures.weight c.depth.ensures.depth c.columns-columns.ensures.columns in
     let all : c.loop-n.n ≡ count_of columns = omega (arith, count_is names columns is, c.loop-n.auto.n-end, c.loop-n-test.false) in
-    subst (IsUnbroken m columns (values_of m columns)) all c.loop-n.invariant.unbroken
+    subst (IsUnbroken m columns (values_of m columns)) all c.loop-n.invariant.offered.unbroken

@@ -12,7 +12,7 @@ returns-in-Ok-clause-cols g c =
     let m = g.R.Ring.modulus t.ring in
     let made : IsSumOf g.R.Ring.zero (g.R.Ring.has t.ring) (g.R.Ring.value t.ring) m (value_of m c.args.name.now) c.in_ok-sum.sum =
     subst (λ r. IsSumOf g.R.Ring.zero (g.R.Ring.has r) (g.R.Ring.value r) (g.R.Ring.modulus r) (value_of (g.R.Ring.modulus r) c.args.name.now) c.in_ok-sum.sum)
-    c.ring.ensures c.in_ok-sum.ensures.value in
+    c.requires.kept_ring c.in_ok-sum.ensures.value in
     same_cols m t.columns (coefficient_of (g.R.Ring.value t.ring) c.in_ok-sum.sum) (value_of m c.args.name.now) (entries_of (g.R.Ring.value t.ring) c.in-Ok.row)
     made.coefficients c.in-Ok.ensures.cols
 
