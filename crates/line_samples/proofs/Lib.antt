@@ -1,0 +1,4 @@
+pub mod TextLemmas
+pub mod CountLemmas
+pub mod LineLemmas
+pub mod SampleLemmas
