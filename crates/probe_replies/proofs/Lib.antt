@@ -1,0 +1,3 @@
+pub mod ReplyLemmas
+pub mod ValueLemmas
+pub mod StuffleLemmas

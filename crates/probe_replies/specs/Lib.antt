@@ -1,0 +1,4 @@
+pub mod Values
+pub mod Replies
+pub mod Stuffles
+pub mod Inner
