@@ -1,0 +1,10 @@
+pub mod Numbers
+pub mod Parameters
+pub mod OneAsk
+pub mod TableColumns
+pub mod ProbeReplies
+pub mod Probes
+pub mod OneWork
+pub mod SomeWork
+pub mod Outcomes
+pub mod ReduceTells

@@ -1,0 +1,17 @@
+use Rattle.whole_runs.proofs.OneAsk.{one_ask}
+use Rattle.whole_runs.proofs.OneWork.{one_work}
+use Rattle.whole_runs.proofs.SomeWork.{some_work}
+use Rattle.whole_runs.proofs.ReduceTells.{reduce_tells}
+use Rattle.whole_runs.proofs.laws.whole_run_laws.Goals as goal
+
+pub returns-clause-one_ask : goal.returns-clause-one_ask
+returns-clause-one_ask c = one_ask
+
+pub returns-clause-one_work : goal.returns-clause-one_work
+returns-clause-one_work c = one_work
+
+pub returns-clause-some_work : goal.returns-clause-some_work
+returns-clause-some_work c = some_work
+
+pub returns-clause-reduce : goal.returns-clause-reduce
+returns-clause-reduce c = reduce_tells

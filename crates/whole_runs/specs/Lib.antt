@@ -1,0 +1,5 @@
+pub mod Statuses
+pub mod CommandLine
+pub mod Texts
+pub mod Works
+pub mod Outcomes

@@ -1,0 +1,63 @@
+-- What any run has of the whole one.
+use Rattle.std.specs.Prelude.{◌≡◌, ◌⊎◌, ℕ, List, Option, Ok, Err}
+use Rattle.outside_io.specs.Told.{before_told, after_told, AppendsFront}
+use Rattle.line_loop.specs.Lines.{whole_output, input_limit}
+use Rattle.line_loop.specs.Talk.{Tells}
+use Rattle.page_codec.specs.declared.params.Params.{Params}
+use Rattle.table_rewrite.specs.Telling.{TellsClasses}
+use Rattle.whole_runs.specs.declared.command.Command.TheVariants.{Dual, List as ListOf, Reduce, Sample, Probe}
+use Rattle.whole_runs.specs.declared.command.WordsFault.TheVariants.{Usage, Param, Count, Terms}
+use Rattle.whole_runs.specs.declared.status.Status.{Status}
+use Rattle.whole_runs.specs.Statuses.{BreaksOff}
+use Rattle.whole_runs.specs.CommandLine.{Asked}
+use Rattle.whole_runs.specs.Works.{Work, output_of, status_of, replies_of, IsWork}
+
+-- a parameter test fails
+abbrev pub FailsTest : Asked → Type 0
+FailsTest (Ok command) = ⊥
+FailsTest (Err Usage) = ⊥
+FailsTest (Err (Param fault)) = Unit {0}
+FailsTest (Err (Count n)) = Unit {0}
+FailsTest (Err (Terms n)) = Unit {0}
+
+-- the command replies to the lines of the source, where nothing is refused
+abbrev pub AsksForReplies : Asked → Type 0
+AsksForReplies (Ok (Dual m)) = Unit {0}
+AsksForReplies (Ok (ListOf w d)) = ⊥
+AsksForReplies (Ok (Reduce params)) = Unit {0}
+AsksForReplies (Ok (Sample params seed count)) = ⊥
+AsksForReplies (Ok (Probe n m)) = Unit {0}
+AsksForReplies (Err fault) = ⊥
+
+-- it is lent a file: no command is yet
+abbrev pub NamesFile : Asked → Type 0
+NamesFile asked = ⊥
+
+-- what a run has of one work: the input is what the source tells, where it tells
+pub record Has (work : Work) (left taken taken_new : Option (List ℕ)) (result : Status) : Type 0 where
+  pub input : List ℕ
+  pub told : Tells left input
+  pub front : AppendsFront taken taken_new (output_of work input)
+  pub whole : BreaksOff result ⊎ ((taken_new ≡ after_told taken (output_of work input)) × (result ≡ status_of work input))
+
+-- a run of what was asked for: what was written is a first part of the whole run's output; unless want of memory or a fault broke the
+-- run off, it is all of it, and the status is the whole run's
+pub record Outcome (asked : Asked) (left taken taken_new : Option (List ℕ)) (result : Status) : Type 0 where
+  pub input : List ℕ
+  pub told : Tells left input
+  pub front : (work : Work) → IsWork asked work → AppendsFront taken taken_new (output_of work input)
+  pub whole : BreaksOff result ⊎ ((work : Work) × IsWork asked work × (taken_new ≡ after_told taken (output_of work input)) × (result ≡ status_of work input))
+
+-- the replies that were written are those to the lines that are whole in the bytes that were read
+pub record AnswersSeen (work : Work) (left left_new taken taken_new : Option (List ℕ)) : Type 0 where
+  pub seen : List ℕ
+  pub read : left ≡ before_told seen left_new
+  pub wrote : taken_new ≡ after_told taken (replies_of work seen)
+
+-- each line of the input got its reply, and the replies tell the classes of sums modulo the listed relations of the parameters
+pub record RepliesTell (params : Params) (left taken taken_new : Option (List ℕ)) : Type 0 where
+  pub input : List ℕ
+  pub told : Tells left input
+  pub reply : List ℕ → List ℕ
+  pub wrote : taken_new ≡ after_told taken (whole_output input_limit reply input)
+  pub tells : TellsClasses params.modulus params.weight params.depth reply
