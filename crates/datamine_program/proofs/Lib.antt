@@ -1,3 +1,6 @@
-pub mod Numbers
-pub mod Outcomes
-pub mod Parameters
+pub mod WrittenLines
+pub mod Tables
+pub mod Samples
+pub mod Runs
+pub mod Probes
+pub mod Asking

@@ -1,3 +1,1 @@
-pub mod Statuses
-pub mod CommandLine
-pub mod Runs
+pub mod Inner

@@ -4,29 +4,64 @@ ghost use Rattle.outside_io.specs.Causes.{Rose};
 ghost use Rattle.line_loop.specs.Lines.{input_limit};
 ghost use Rattle.line_loop.specs.Talk.{Tells, TakesAtMost};
 ghost use Rattle.dual_reply.specs.Canonical.{TellsSums};
-ghost use Rattle.datamine_program.specs.Statuses.{ComesFor};
-ghost use Rattle.datamine_program.specs.CommandLine.{asked};
-ghost use Rattle.datamine_program.specs.Runs.{wanted, Outcome, AnswersSeen, ReadsLines, NamesFile, FailsTest};
-ghost use Rattle.datamine_program.specs.declared.command_line.Command.TheVariants.{Dual};
-ghost use Rattle.datamine_program.specs.declared.command_line.WordsFault.TheVariants.{Usage};
+ghost use Rattle.page_codec.specs.declared.params.Params.{Params};
+ghost use Rattle.whole_runs.specs.Statuses.{ComesFor};
+ghost use Rattle.whole_runs.specs.CommandLine.{Asked, Asks, IsInRange};
+ghost use Rattle.whole_runs.specs.Works.{Work, IsWork, Wants, ReadsLines};
+ghost use Rattle.whole_runs.specs.Outcomes.{Outcome, AnswersSeen, RepliesTell, AsksForReplies, NamesFile, FailsTest};
+ghost use Rattle.whole_runs.specs.declared.command.Command.TheVariants.{Dual, Reduce};
+ghost use Rattle.whole_runs.specs.declared.command.WordsFault.TheVariants.{Usage};
+ghost use Rattle.datamine_program.specs.Inner.{IsRun};
 
-use crate::dual::Duality;
-use crate::lines::run_lines;
+use crate::dual::run_dual;
 use crate::list::run_list;
-use crate::refusals::{refuse_param, refuse_words};
-use crate::{Command, Status, WordsFault, read_words};
+use crate::probe::run_probe;
+use crate::reduce::run_reduce;
+use crate::refusals::refuse;
+use crate::sample::run_sample;
 use outside_io::{Disk, Sink, Source};
 use std::alloc::Global;
+use whole_runs::{Command, Status, read_words};
+
+// Does what a command asks for.
+fn perform<S: Source, K: Sink>(
+    alloc: Global,
+    command: Command,
+    source: &mut S,
+    sink: &mut K,
+) -> Status
+    requires { IsInRange command }
+    ensures run { IsRun (Ok command) (S.left source.old) (S.left source.new) (K.taken sink.old) (K.taken sink.new) result }
+    ensures source { (work : Work) → IsWork (Ok command) work → ¬ (ReadsLines work) → source.new ≡ source.old }
+    ensures read_fault_only { result ≡ Status.ReadFault → Rose (S.faults source.old) (S.faults source.new) }
+    ensures write_fault_only { result ≡ Status.WriteFault → Rose (K.faults sink.old) (K.faults sink.new) }
+{
+    match command {
+        Command::Dual { modulus } => run_dual(alloc, modulus, source, sink),
+        Command::List { weight, depth } => run_list(alloc, weight, depth, sink),
+        Command::Reduce { params } => run_reduce(alloc, &params, source, sink),
+        Command::Sample {
+            params,
+            seed,
+            count,
+        } => run_sample(alloc, &params, seed, count, sink),
+        Command::Probe { terms, modulus } => run_probe(alloc, terms, modulus, source, sink),
+    }
+}
 
 /// Does what the words behind the program's name ask for.
 ///
-/// `dual M` reads the source to its end, and writes one reply and the byte 10 for each line. `list W D` writes the names
-/// of the relations of weight W and depth at most D, one a line, with their numbers from 0. `Usage` and `Params`
-/// come exactly where the words fit no command or a parameter test fails, whatever memory there is; only a write
-/// that fails may come in their place. `DiskFault`, `ReadFault` and `WriteFault` come only where that object's
-/// count of faults rose in this call. What is written is a first part of the whole run's output: all of it unless
-/// memory was wanting or a call failed, and with `ReadFault` the replies to the lines that are whole in the bytes
-/// that were read. `Done` says that the source was read to its end, where the command reads lines.
+/// `dual M`, `reduce W D M ORDER [PREF]` and `probe N M` read the source to its end, and write one reply and the byte 10 for each
+/// line: by duality, by the table of these parameters, which is made in memory before the first line is read, and by truncated sums up
+/// to N. `list W D` writes the names of the relations of weight W and depth at most D, one a line, with their numbers from 0.
+/// `sample W D M SEED COUNT` counts the replies of a table to lines that are made from the seed, and writes one line.
+///
+/// `Usage` and `Params` come exactly where the words fit no command or a parameter test fails, whatever memory there is; only a write
+/// that fails may come in their place. `NoInverse` comes where a word, a relation or a number up to N tells a residue without inverse:
+/// the first is told, and no line is read. `DiskFault`, `ReadFault` and `WriteFault` come only where that object's count of faults rose in
+/// this call. What is written is a first part of the whole run's output: all of it unless memory was wanting or a call failed, and with
+/// `ReadFault` the replies to the lines that are whole in the bytes that were read. `Done` says that the source was read to its end,
+/// where the command reads lines. `TooMuchInput` comes where it gives more than 67,108,864 bytes.
 pub fn run<D: Disk, S: Source, K: Sink>(
     alloc: Global,
     words: &[String],
@@ -34,27 +69,32 @@ pub fn run<D: Disk, S: Source, K: Sink>(
     source: &mut S,
     sink: &mut K,
 ) -> Status
-    ensures usage { ComesFor (asked (map string_bytes words.now) ≡ Err Usage) Status.Usage result }
-    ensures params { ComesFor (FailsTest (asked (map string_bytes words.now))) Status.Params result }
-    ensures disk_fault_only { result ≡ Status.DiskFault → NamesFile (wanted (map string_bytes words.now)) × Rose (D.faults disk.old) (D.faults disk.new) }
-    ensures read_fault_only { result ≡ Status.ReadFault → ReadsLines (wanted (map string_bytes words.now)) × Rose (S.faults source.old) (S.faults source.new) }
+    ensures usage { ComesFor (Asks (map string_bytes words.now) (Err Usage)) Status.Usage result }
+    ensures params { ComesFor ((asked : Asked) × Asks (map string_bytes words.now) asked × FailsTest asked) Status.Params result }
+    ensures disk_fault_only { result ≡ Status.DiskFault
+        → (asked : Asked) × Asks (map string_bytes words.now) asked × NamesFile asked × Rose (D.faults disk.old) (D.faults disk.new) }
+    ensures read_fault_only { result ≡ Status.ReadFault
+        → (asked : Asked) × Asks (map string_bytes words.now) asked × AsksForReplies asked × Rose (S.faults source.old) (S.faults source.new) }
     ensures write_fault_only { result ≡ Status.WriteFault → Rose (K.faults sink.old) (K.faults sink.new) }
-    ensures outcome { Outcome (wanted (map string_bytes words.now)) (S.left source.old) (K.taken sink.old) (K.taken sink.new) result }
-    ensures done { result ≡ Status.Done → ReadsLines (wanted (map string_bytes words.now)) → Tells (S.left source.new) [] }
-    ensures answered { result ≡ Status.ReadFault → AnswersSeen (wanted (map string_bytes words.now)) (S.left source.old) (S.left source.new) (K.taken sink.old) (K.taken sink.new) }
+    ensures outcome { (asked : Asked) → Asks (map string_bytes words.now) asked
+        → Outcome asked (S.left source.old) (K.taken sink.old) (K.taken sink.new) result }
+    ensures done { (asked : Asked) → Asks (map string_bytes words.now) asked → result ≡ Status.Done → AsksForReplies asked → Tells (S.left source.new) [] }
+    ensures answered { result ≡ Status.ReadFault → (work : Work) → Wants (map string_bytes words.now) work
+        → AnswersSeen work (S.left source.old) (S.left source.new) (K.taken sink.old) (K.taken sink.new) }
     ensures disk { disk.new ≡ disk.old }
-    ensures source { (ReadsLines (wanted (map string_bytes words.now)) → ⊥) → source.new ≡ source.old }
+    ensures source { (work : Work) → Wants (map string_bytes words.now) work → ¬ (ReadsLines work) → source.new ≡ source.old }
     ensures takes { TakesAtMost (input_limit + 1) (S.left source.old) (S.left source.new) }
 
-    // Two accepted lines get the same text exactly where their sums differ by duality, and no accepted line is refused.
-    ensures replies { (m : ℕ) → asked (map string_bytes words.now) ≡ Ok (Dual m) → TellsSums m }
+    // With `dual` two accepted lines get the same text exactly where their sums differ by duality, and no accepted line is refused.
+    ensures replies { (m : ℕ) → Asks (map string_bytes words.now) (Ok (Dual m)) → TellsSums m }
+
+    // With `reduce` and status 0 two accepted lines got the same text exactly where the difference of their sums is in the span of the
+    // listed relations, and no accepted line was refused.
+    ensures reduce { (params : Params) → Asks (map string_bytes words.now) (Ok (Reduce params)) → result ≡ Status.Done
+        → RepliesTell params (S.left source.old) (K.taken sink.old) (K.taken sink.new) }
 {
     match read_words(words) {
-        Err(WordsFault::Usage) => refuse_words(sink),
-        Err(WordsFault::Param(fault)) => refuse_param(sink, fault),
-        Ok(Command::Dual { modulus }) => {
-            run_lines(alloc, &Duality::modulo(alloc, modulus), source, sink)
-        }
-        Ok(Command::List { weight, depth }) => run_list(alloc, weight, depth, sink),
+        Ok(command) => perform(alloc, command, source, sink),
+        Err(fault) => refuse(sink, fault),
     }
 }

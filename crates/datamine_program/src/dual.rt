@@ -1,21 +1,27 @@
 //! The command `dual`: each line is replied to by duality alone.
-ghost use Rattle.std.specs.Prelude.{◌≡◌, ◌≤◌, ◌<◌, ◌^◌};
+ghost use Rattle.std.specs.Prelude.{◌≡◌, ◌≤◌, ◌<◌, ◌^◌, Ok};
+ghost use Rattle.outside_io.specs.Causes.{Rose};
 ghost use Rattle.dual_reply.specs.Reply.{reply_of};
+ghost use Rattle.whole_runs.specs.declared.command.Command.TheVariants.{Dual};
+ghost use Rattle.datamine_program.specs.Inner.{IsRun};
 
+use crate::lines::run_lines;
 use line_loop::Replier;
+use outside_io::{Sink, Source};
 use residues::{Ring, WordMod};
 use std::alloc::{AllocError, Global};
+use whole_runs::Status;
 
 // Replies by duality, modulo the modulus of the ring.
 #[derive(Drop)]
-pub(crate) struct Duality {
+struct Duality {
     alloc: Global,
     ring: WordMod,
 }
 
 impl Duality {
     // Replies modulo this number.
-    pub(crate) fn modulo(alloc: Global, modulus: u64) -> Duality
+    fn modulo(alloc: Global, modulus: u64) -> Duality
         requires from { 3 ≤ modulus }
         requires below { modulus < 2 ^ 63 }
         ensures { ⟦<Duality as Replier>⟧.reply_to result ≡ reply_of modulus }
@@ -31,4 +37,20 @@ impl Replier for Duality {
     fn reply(&self, line: &[u8], out: &mut Vec<u8>) -> Result<(), AllocError> {
         dual_reply::reply(self.alloc, &self.ring, line, out)
     }
+}
+
+// Replies to each line by duality.
+pub(crate) fn run_dual<S: Source, K: Sink>(
+    alloc: Global,
+    modulus: u64,
+    source: &mut S,
+    sink: &mut K,
+) -> Status
+    requires from { 3 ≤ modulus }
+    requires below { modulus < 2 ^ 63 }
+    ensures run { IsRun (Ok (Dual modulus)) (S.left source.old) (S.left source.new) (K.taken sink.old) (K.taken sink.new) result }
+    ensures read_fault_only { result ≡ Status.ReadFault → Rose (S.faults source.old) (S.faults source.new) }
+    ensures write_fault_only { result ≡ Status.WriteFault → Rose (K.faults sink.old) (K.faults sink.new) }
+{
+    run_lines(alloc, &Duality::modulo(alloc, modulus), source, sink)
 }

@@ -1,20 +1,25 @@
 //! All that the program does, over any disk, source and sink: it reads the words of its command line, and answers
 //! with a status.
 //!
-//! It stands on `line_loop` for commands that read lines, on `dual_reply` for the reply to a line by duality, on
-//! `relation_list` for the listing, and on `outside_io` for what it is lent. `specs/CommandLine.antt` says what the
-//! words ask for, and `specs/Runs.antt` what is done for each command, what a whole run of it writes and how it ends.
+//! What words ask for, what a whole run of it writes and how it ends is said by `whole_runs`. The crate stands on
+//! `line_loop` for commands that read lines, on `dual_reply`, `table_replies` and `probe_replies` for the replies to
+//! them, on `table_rows` for the rows of a table, on `line_samples` for lines that are made from a seed, on
+//! `relation_list` for the listing, and on `outside_io` for what it is lent.
 #![tactic(auto)]
 
-mod command_line;
 mod commands;
 mod dual;
 mod lines;
 mod list;
+mod no_inverse;
+mod pieces;
+mod probe;
+mod ready;
+mod reduce;
 mod refusals;
-mod status;
+mod sample;
+mod table;
 mod writing;
 
-pub use command_line::{Command, WordsFault, read_words};
 pub use commands::run;
-pub use status::Status;
+pub use whole_runs::{Command, Status, WordsFault, read_words};

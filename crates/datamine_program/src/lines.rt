@@ -3,13 +3,13 @@ ghost use Rattle.std.specs.Prelude.{◌≡◌, ◌+◌, ◌⊎◌, []};
 ghost use Rattle.outside_io.specs.Causes.{Rose};
 ghost use Rattle.line_loop.specs.Lines.{input_limit};
 ghost use Rattle.line_loop.specs.Talk.{Tells, TakesAtMost};
-ghost use Rattle.datamine_program.specs.Runs.{Outcome, AnswersSeen};
-ghost use Rattle.datamine_program.specs.Runs.Work.{Replies};
+ghost use Rattle.whole_runs.specs.Outcomes.{Has, AnswersSeen};
+ghost use Rattle.whole_runs.specs.Works.Work.{Replies};
 
-use crate::Status;
 use line_loop::{Ended, Replier, answer_lines};
 use outside_io::{Sink, Source};
 use std::alloc::Global;
+use whole_runs::Status;
 
 // Gives each line of the source its reply.
 pub(crate) fn run_lines<R: Replier, S: Source, K: Sink>(
@@ -19,7 +19,7 @@ pub(crate) fn run_lines<R: Replier, S: Source, K: Sink>(
     sink: &mut K,
 ) -> Status
     ensures which { (result ≡ Status.Done) ⊎ (result ≡ Status.Memory) ⊎ (result ≡ Status.ReadFault) ⊎ (result ≡ Status.WriteFault) ⊎ (result ≡ Status.TooMuchInput) }
-    ensures outcome { Outcome (Replies (R.reply_to replier.now)) (S.left source.old) (K.taken sink.old) (K.taken sink.new) result }
+    ensures has { Has (Replies (R.reply_to replier.now)) (S.left source.old) (K.taken sink.old) (K.taken sink.new) result }
     ensures takes { TakesAtMost (input_limit + 1) (S.left source.old) (S.left source.new) }
     ensures done { result ≡ Status.Done → Tells (S.left source.new) [] }
     ensures answered { result ≡ Status.ReadFault → AnswersSeen (Replies (R.reply_to replier.now)) (S.left source.old) (S.left source.new) (K.taken sink.old) (K.taken sink.new) }

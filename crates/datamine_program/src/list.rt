@@ -3,15 +3,16 @@ ghost use Rattle.std.specs.Prelude.{◌≡◌, ◌≢◌, ◌⊎◌, ◌++◌, �
 ghost use Rattle.outside_io.specs.Causes.{Rose};
 ghost use Rattle.relation_list.specs.Listings.{listing_of};
 ghost use Rattle.relation_list.specs.Names.{is_name_of};
-ghost use Rattle.datamine_program.specs.Runs.{work_of, Outcome, name_line, name_lines};
-ghost use Rattle.datamine_program.specs.declared.command_line.Command.TheVariants.{List as ListOf};
+ghost use Rattle.whole_runs.specs.Outcomes.{Outcome};
+ghost use Rattle.whole_runs.specs.Texts.{name_line, name_lines};
+ghost use Rattle.whole_runs.specs.declared.command.Command.TheVariants.{List as ListOf};
 
-use crate::Status;
 use crate::writing::write_and_end;
 use outside_io::Sink;
 use relation_list::{RelName, listing, push_text};
 use std::alloc::{AllocError, Global};
 use std::fmt::Write;
+use whole_runs::Status;
 
 // Puts the line of a name at the end of the lines.
 fn push_line(lines: &mut String, number: usize, name: &RelName) -> Result<(), AllocError>
@@ -53,7 +54,7 @@ pub(crate) fn run_list<K: Sink>(alloc: Global, weight: u32, depth: u32, sink: &m
     requires some { 1 ≤ depth }
     requires below { depth < weight }
     ensures which { (result ≡ Status.Done) ⊎ (result ≡ Status.Memory) ⊎ (result ≡ Status.WriteFault) }
-    ensures outcome { (left : Option (List ℕ)) → Outcome (work_of (Ok (ListOf weight depth))) left (K.taken sink.old) (K.taken sink.new) result }
+    ensures outcome { (left : Option (List ℕ)) → Outcome (Ok (ListOf weight depth)) left (K.taken sink.old) (K.taken sink.new) result }
     ensures write_fault_only { result ≡ Status.WriteFault → Rose (K.faults sink.old) (K.faults sink.new) }
 {
     let Ok(lines) = listing_lines(alloc, weight, depth) else {

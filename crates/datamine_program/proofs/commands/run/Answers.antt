@@ -1,18 +1,86 @@
-use Rattle.std.proofs.Common.{Err, ◌∙◌, ap, sym}
-use Rattle.page_codec.specs.declared.fault.ParamFault.{ParamFault}
-use Rattle.datamine_program.specs.declared.command_line.WordsFault.TheVariants.{Param}
-use Rattle.datamine_program.specs.Runs.{Asked}
-use Rattle.datamine_program.proofs.Outcomes.{tells_sums_of, outcome_of}
+use Rattle.std.proofs.Common.{Ok, Err, map, string_bytes, subst}
+use Rattle.whole_runs.specs.CommandLine.{Asks}
+use Rattle.whole_runs.specs.Outcomes.{Outcome, AnswersSeen, AsksForReplies}
+use Rattle.whole_runs.specs.Works.{ReadsLines}
+use Rattle.whole_runs.proofs.Outcomes.{each_asked}
+use Rattle.datamine_program.proofs.Asking.{each_wanted, not_usage, passes, dual_tells, table_tells, same_fault, fails, no_dual, no_reduce}
+use Rattle.datamine_program.proofs.Runs.{takes_none}
 use Rattle.datamine_program.proofs.commands.run.Goals as goal
 
-abbrev refused : ParamFault → Asked
-refused fault = Err (Param fault)
+pub returns-in-Ok-clause-usage : goal.returns-in-Ok-clause-usage
+returns-in-Ok-clause-usage g c =
+    let words = map string_bytes c.args.words.now in
+    (λ e. absurd (c.perform.ensures.run.usage e), λ is. absurd (not_usage words c.in-Ok.command c.in-Ok.ensures.asked is))
 
-pub returns-in-Err-Param-clause-outcome : goal.returns-in-Err-Param-clause-outcome
-returns-in-Err-Param-clause-outcome g c =
-    let arm = c.in-Err-Param in
-    outcome_of _ _ _ _ _ _ (ap refused arm.fault-is ∙ ap Err (sym arm.field-0-is) ∙ sym arm.is
-    ∙ c.read_words.ensures.asked) (c.refuse_param.ensures.outcome _)
+pub returns-in-Ok-clause-params : goal.returns-in-Ok-clause-params
+returns-in-Ok-clause-params g c =
+    let words = map string_bytes c.args.words.now in
+    (λ e. absurd (c.perform.ensures.run.params e), λ f. absurd (passes words c.in-Ok.command c.in-Ok.ensures.asked f))
 
-pub returns-in-Ok-Dual-clause-replies : goal.returns-in-Ok-Dual-clause-replies
-returns-in-Ok-Dual-clause-replies g c = λ m is. tells_sums_of c.read_words.result c.read_words.ensures.in_range m (c.read_words.ensures.asked ∙ is)
+pub returns-in-Ok-clause-disk_fault_only : goal.returns-in-Ok-clause-disk_fault_only
+returns-in-Ok-clause-disk_fault_only g c = λ e. absurd (c.perform.ensures.run.disk_fault e)
+
+pub returns-in-Ok-clause-read_fault_only : goal.returns-in-Ok-clause-read_fault_only
+returns-in-Ok-clause-read_fault_only g c =
+    λ e. (Ok c.in-Ok.command, c.in-Ok.ensures.asked, c.perform.ensures.run.read_fault e, c.perform.ensures.read_fault_only e)
+
+pub returns-in-Ok-clause-outcome : goal.returns-in-Ok-clause-outcome
+returns-in-Ok-clause-outcome g c =
+    let words = map string_bytes c.args.words.now in
+    each_asked words (Ok c.in-Ok.command) (λ a. Outcome a _ _ _ _) c.in-Ok.ensures.asked c.perform.ensures.run.outcome
+
+pub returns-in-Ok-clause-done : goal.returns-in-Ok-clause-done
+returns-in-Ok-clause-done g c =
+    let words = map string_bytes c.args.words.now in
+    λ asked is e a. c.perform.ensures.run.done e (each_asked words asked (λ b. AsksForReplies b) is a (Ok c.in-Ok.command) c.in-Ok.ensures.asked)
+
+pub returns-in-Ok-clause-answered : goal.returns-in-Ok-clause-answered
+returns-in-Ok-clause-answered g c =
+    let words = map string_bytes c.args.words.now in
+    λ e. each_wanted words (Ok c.in-Ok.command) (λ work. AnswersSeen work _ _ _ _) c.in-Ok.ensures.asked (c.perform.ensures.run.answered e)
+
+pub returns-in-Ok-clause-source : goal.returns-in-Ok-clause-source
+returns-in-Ok-clause-source g c =
+    let words = map string_bytes c.args.words.now in
+    each_wanted words (Ok c.in-Ok.command) (λ work. ¬ (ReadsLines work) → _) c.in-Ok.ensures.asked c.perform.ensures.source
+
+pub returns-in-Ok-clause-takes : goal.returns-in-Ok-clause-takes
+returns-in-Ok-clause-takes g c = c.perform.ensures.run.takes
+
+pub returns-in-Ok-clause-replies : goal.returns-in-Ok-clause-replies
+returns-in-Ok-clause-replies g c =
+    dual_tells (map string_bytes c.args.words.now) c.in-Ok.command c.in-Ok.ensures.asked c.in-Ok.ensures.in_range
+
+pub returns-in-Ok-clause-reduce : goal.returns-in-Ok-clause-reduce
+returns-in-Ok-clause-reduce g c =
+    table_tells (map string_bytes c.args.words.now) c.in-Ok.command c.in-Ok.ensures.asked c.in-Ok.ensures.in_range _ _ _ _ c.perform.ensures.run.outcome
+
+pub returns-in-Err-clause-usage : goal.returns-in-Err-clause-usage
+returns-in-Err-clause-usage g c =
+    let words = map string_bytes c.args.words.now in (
+      λ e. subst (λ f. Asks words (Err f)) (c.refuse.ensures.usage.0 e) c.in-Err.ensures.asked,
+      λ is. c.refuse.ensures.usage.1 (same_fault words c.in-Err.fault c.in-Err.ensures.asked is),
+    )
+
+pub returns-in-Err-clause-params : goal.returns-in-Err-clause-params
+returns-in-Err-clause-params g c =
+    let words = map string_bytes c.args.words.now in (
+      λ e. (Err c.in-Err.fault, c.in-Err.ensures.asked, c.refuse.ensures.params.0 e),
+      λ f. c.refuse.ensures.params.1 (fails words c.in-Err.fault c.in-Err.ensures.asked f),
+    )
+
+pub returns-in-Err-clause-outcome : goal.returns-in-Err-clause-outcome
+returns-in-Err-clause-outcome g c =
+    let words = map string_bytes c.args.words.now in
+    each_asked words (Err c.in-Err.fault) (λ a. Outcome a _ _ _ _) c.in-Err.ensures.asked (c.refuse.ensures.outcome _)
+
+pub returns-in-Err-clause-takes : goal.returns-in-Err-clause-takes
+returns-in-Err-clause-takes g c = takes_none _
+
+pub returns-in-Err-clause-replies : goal.returns-in-Err-clause-replies
+returns-in-Err-clause-replies g c =
+    λ m is. absurd (no_dual (map string_bytes c.args.words.now) c.in-Err.fault c.in-Err.ensures.asked m is)
+
+pub returns-in-Err-clause-reduce : goal.returns-in-Err-clause-reduce
+returns-in-Err-clause-reduce g c =
+    λ params is e. absurd (no_reduce (map string_bytes c.args.words.now) c.in-Err.fault c.in-Err.ensures.asked params is)

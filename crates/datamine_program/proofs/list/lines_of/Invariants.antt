@@ -1,5 +1,5 @@
 use Rattle.std.proofs.Common.{◌≡◌, ◌++◌, drop, string_bytes}
-use Rattle.datamine_program.specs.Runs.{name_lines}
+use Rattle.whole_runs.specs.Texts.{name_lines}
 use Rattle.datamine_program.proofs.list.lines_of.Given as goal
 
 abbrev pub invariant-loop-number : goal.invariant-loop-number

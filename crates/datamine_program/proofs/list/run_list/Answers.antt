@@ -1,10 +1,14 @@
-use Rattle.std.proofs.Common.{inl, refl}
-use Rattle.relation_list.specs.Listings.{listing_of}
-use Rattle.datamine_program.specs.declared.status.Status.TheVariants as status
-use Rattle.datamine_program.specs.Runs.{name_lines}
-use Rattle.datamine_program.proofs.Outcomes.{writes_none}
+use Rattle.std.proofs.Common.{Ok, List, ℕ, inl, refl, ap, ◌∙◌}
+use Rattle.whole_runs.specs.declared.command.Command.TheVariants.{List as ListOf}
+use Rattle.whole_runs.specs.declared.status.Status.TheVariants as status
+use Rattle.whole_runs.specs.Works.Work.{Writes}
+use Rattle.whole_runs.proofs.Outcomes.{outcome_of, broken_off}
 use Rattle.datamine_program.proofs.list.run_list.Goals as goal
 
 pub returns-in_default-clause-outcome : goal.returns-in_default-clause-outcome
-returns-in_default-clause-outcome g c =
-    λ left. writes_none (name_lines 0 (listing_of c.args.weight c.args.depth)) status.Done status.Memory _ left (inl refl)
+returns-in_default-clause-outcome g c = λ left. broken_off (Ok (ListOf c.args.weight c.args.depth)) left _ status.Memory (inl refl)
+
+pub returns-clause-outcome : goal.returns-clause-outcome
+returns-clause-outcome g c = λ left.
+    outcome_of (Ok (ListOf c.args.weight c.args.depth)) (Writes c.as_bytes.result.now status.Done) left _ _ _
+    (ap (λ (bytes : List ℕ). Writes bytes status.Done) (c.as_bytes.ensures.value ∙ c.in-Ok.ensures)) (c.write_and_end.ensures.has left)

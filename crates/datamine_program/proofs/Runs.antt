@@ -1,0 +1,119 @@
+-- What a run of a command has, by how it went.
+use Rattle.std.proofs.Common.{◌≡◌, ◌⊎◌, inl, inr, ℕ, ◌+◌, List, [], Option, sym, subst, lit≤}
+use Rattle.outside_io.proofs.Telling.{before-nothing}
+use Rattle.line_loop.specs.Lines.{input_limit}
+use Rattle.line_loop.specs.Talk.{Tells, TakesAtMost}
+use Rattle.whole_runs.specs.declared.status.Status.{Status}
+use Rattle.whole_runs.specs.declared.status.Status.TheVariants.{Done, Memory, Usage, Params, NoInverse, DiskFault, ReadFault, WriteFault}
+use Rattle.whole_runs.specs.declared.status.Status.TheVariants.{NotATable, NotComplete, TooMuchInput}
+use Rattle.whole_runs.specs.CommandLine.{Asked}
+use Rattle.whole_runs.specs.Works.{Work, IsWork, ReadsLines}
+use Rattle.whole_runs.specs.Works.Work.{Replies}
+use Rattle.whole_runs.specs.Outcomes.{Has, Outcome, AnswersSeen, AsksForReplies}
+use Rattle.whole_runs.proofs.Outcomes.{each_work, outcome_of, answers_of}
+use Rattle.datamine_program.specs.Inner.{IsRun}
+
+-- neither words nor parameters are refused, and no file is used
+abbrev IsPlain : Status → Type 0
+IsPlain Done = Unit {0}
+IsPlain Memory = Unit {0}
+IsPlain Usage = ⊥
+IsPlain Params = ⊥
+IsPlain NoInverse = Unit {0}
+IsPlain DiskFault = ⊥
+IsPlain ReadFault = Unit {0}
+IsPlain WriteFault = Unit {0}
+IsPlain NotATable = ⊥
+IsPlain NotComplete = ⊥
+IsPlain TooMuchInput = Unit {0}
+
+-- nor is the source
+abbrev IsQuiet : Status → Type 0
+IsQuiet Done = Unit {0}
+IsQuiet Memory = Unit {0}
+IsQuiet Usage = ⊥
+IsQuiet Params = ⊥
+IsQuiet NoInverse = Unit {0}
+IsQuiet DiskFault = ⊥
+IsQuiet ReadFault = ⊥
+IsQuiet WriteFault = Unit {0}
+IsQuiet NotATable = ⊥
+IsQuiet NotComplete = ⊥
+IsQuiet TooMuchInput = ⊥
+
+-- how lines, a refusal and one line end
+abbrev EndsLines : Status → Type 0
+EndsLines result = (result ≡ Done) ⊎ (result ≡ Memory) ⊎ (result ≡ ReadFault) ⊎ (result ≡ WriteFault) ⊎ (result ≡ TooMuchInput)
+
+abbrev EndsRefusal : Status → Type 0
+EndsRefusal result = (result ≡ NoInverse) ⊎ (result ≡ Memory) ⊎ (result ≡ WriteFault)
+
+abbrev EndsSample : Status → Type 0
+EndsSample result = (result ≡ Done) ⊎ (result ≡ NoInverse) ⊎ (result ≡ Memory) ⊎ (result ≡ WriteFault)
+
+plain_lines : (result : Status) → EndsLines result → IsPlain result
+plain_lines result (inl e) = subst IsPlain (sym e) tt
+plain_lines result (inr (inl e)) = subst IsPlain (sym e) tt
+plain_lines result (inr (inr (inl e))) = subst IsPlain (sym e) tt
+plain_lines result (inr (inr (inr (inl e)))) = subst IsPlain (sym e) tt
+plain_lines result (inr (inr (inr (inr e)))) = subst IsPlain (sym e) tt
+
+quiet_sample : (result : Status) → EndsSample result → IsQuiet result
+quiet_sample result (inl e) = subst IsQuiet (sym e) tt
+quiet_sample result (inr (inl e)) = subst IsQuiet (sym e) tt
+quiet_sample result (inr (inr (inl e))) = subst IsQuiet (sym e) tt
+quiet_sample result (inr (inr (inr e))) = subst IsQuiet (sym e) tt
+
+refused_not_done : (result : Status) → EndsRefusal result → ¬ (result ≡ Done)
+refused_not_done result (inl e) d = cc
+refused_not_done result (inr (inl e)) d = cc
+refused_not_done result (inr (inr e)) d = cc
+
+pub takes_none : (left : Option (List ℕ)) → TakesAtMost (input_limit + 1) left left
+takes_none left = record { seen = []; read = sym (before-nothing left); bounded = lit≤ tt }
+
+-- the source was left alone
+quiet_run : (asked : Asked) (left taken taken_new : Option (List ℕ)) (result : Status) → Outcome asked left taken taken_new result → IsQuiet result
+    → (result ≡ Done → ¬ (AsksForReplies asked)) → IsRun asked left left taken taken_new result
+quiet_run asked left taken taken_new result outcome quiet alone = record {
+  outcome = outcome;
+  answered = λ e. absurd (subst IsQuiet e quiet);
+  read_fault = λ e. absurd (subst IsQuiet e quiet);
+  done = λ e asks. absurd (alone e asks);
+  takes = takes_none left;
+  usage = λ e. subst IsQuiet e quiet;
+  params = λ e. subst IsQuiet e quiet;
+  disk_fault = λ e. subst IsQuiet e quiet;
+}
+
+module _ (asked : Asked) (left taken taken_new : Option (List ℕ)) (result : Status) where
+  -- a residue without inverse was told, or memory was wanting
+  pub refused_run : Outcome asked left taken taken_new result → EndsRefusal result → IsRun asked left left taken taken_new result
+  refused_run outcome ends =
+      quiet_run asked left taken taken_new result outcome (quiet_sample result (inr ends)) (λ e. absurd (refused_not_done result ends e))
+
+  -- one line was written, or a residue without inverse was told, or memory was wanting
+  pub written_run : Outcome asked left taken taken_new result → EndsSample result → ¬ (AsksForReplies asked) → IsRun asked left left taken taken_new result
+  written_run outcome ends alone = quiet_run asked left taken taken_new result outcome (quiet_sample result ends) (λ e. alone)
+
+module _ (asked : Asked) (reply : List ℕ → List ℕ) (is : IsWork asked (Replies reply)) where
+  -- lines were replied to
+  pub lines_run : (left left_new taken taken_new : Option (List ℕ)) (result : Status) → AsksForReplies asked → EndsLines result
+      → Has (Replies reply) left taken taken_new result → TakesAtMost (input_limit + 1) left left_new → (result ≡ Done → Tells left_new [])
+      → (result ≡ ReadFault → AnswersSeen (Replies reply) left left_new taken taken_new) → IsRun asked left left_new taken taken_new result
+  lines_run left left_new taken taken_new result asks ends has takes done answered =
+      let plain : IsPlain result = plain_lines result ends in
+      record {
+        outcome = outcome_of asked (Replies reply) left taken taken_new result is has;
+        answered = λ e. answers_of asked (Replies reply) left left_new taken taken_new is (answered e);
+        read_fault = λ e. asks;
+        done = λ e a. done e;
+        takes = takes;
+        usage = λ e. subst IsPlain e plain;
+        params = λ e. subst IsPlain e plain;
+        disk_fault = λ e. subst IsPlain e plain;
+      }
+
+  -- each work of what is asked for reads lines
+  pub reads_lines : (work : Work) → IsWork asked work → ReadsLines work
+  reads_lines = each_work asked (Replies reply) ReadsLines is tt

@@ -1,0 +1,14 @@
+use Rattle.std.proofs.Common.{Ok, sym, subst}
+use Rattle.whole_runs.specs.declared.command.Command.TheVariants.{Probe}
+use Rattle.whole_runs.specs.Works.{IsWork}
+use Rattle.datamine_program.proofs.probe.run_probe.Goals as goal
+
+pub returns-in-Ok-Odd-clause-source : goal.returns-in-Ok-Odd-clause-source
+returns-in-Ok-Odd-clause-source g c =
+    let same = rw c.in-Ok-Odd.field-0-is at c.in-Ok-Odd.ensures.ok in
+    λ work is quiet. c.probe_over.ensures.source work (subst (λ m. IsWork (Ok (Probe c.args.terms m)) work) (sym same.0) is) quiet
+
+pub returns-in-Ok-Even-clause-source : goal.returns-in-Ok-Even-clause-source
+returns-in-Ok-Even-clause-source g c =
+    let same = rw c.in-Ok-Even.field-0-is at c.in-Ok-Even.ensures.ok in
+    λ work is quiet. c.probe_over-in-Ok-Even.ensures.source work (subst (λ m. IsWork (Ok (Probe c.args.terms m)) work) (sym same.0) is) quiet
