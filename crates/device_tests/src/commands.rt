@@ -4,10 +4,10 @@ use std::alloc::{AllocError, Global};
 use std::test::Fail;
 
 const USAGE: &[u8] =
-    b"usage: dual M; list W D; reduce W D M ORDER; build FILE W D M ORDER; resume FILE W D M ORDER; check FILE; rewrite FILE; show FILE; sample W D M SEED COUNT\n";
+    b"usage: dual M; list W D; reduce W D M ORDER [PREF]; build FILE W D M ORDER [PREF]; resume FILE W D M ORDER [PREF]; check FILE; rewrite FILE; show FILE; sample W D M SEED COUNT; migrate FILE; rational FILE; probe N M\n";
 
 // A run over some input, of which the listed calls of the source and the sink fail.
-fn conduct(
+pub(crate) fn conduct(
     alloc: Global,
     words: &[&str],
     input: Vec<u8>,

@@ -15,3 +15,5 @@ mod loops;
 mod replies;
 #[cfg(test)]
 mod sealing;
+#[cfg(test)]
+mod tables;
