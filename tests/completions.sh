@@ -18,14 +18,22 @@ offers() {
     fi
 }
 
-offers "dual list" mzv ""
+offers "dual list reduce sample probe" mzv ""
 offers "dual" mzv d
+offers "reduce" mzv r
 offers "2 20 21 22 23 24" mzv list 2
+offers "2 20 21 22 23 24" mzv sample 2
 offers "1 2 3" mzv list 4 ""
+offers "1 2 3" mzv reduce 4 ""
 offers "" mzv list 1 ""
 offers "" mzv list x ""
 offers "" mzv dual ""
+offers "" mzv probe ""
 offers "" mzv list 4 3 ""
+offers "" mzv reduce 4 3 ""
+offers "lex odd" mzv reduce 4 3 101 ""
+offers "odd" mzv reduce 4 3 101 o
+offers "" mzv sample 4 3 101 ""
 # describes WANTED WORD..: the same for zsh, whose own functions are replaced by ones that print what they are given
 describes() {
     local wanted=$1 printed
@@ -46,11 +54,17 @@ describes() {
 }
 
 if command -v zsh >/dev/null 2>&1; then
-    describes "dual list" mzv ""
+    describes "dual list reduce sample probe" mzv ""
     describes "2 3 4 5 6 7 8 9 10 11 12 13 14 15 16 17 18 19 20 21 22 23 24" mzv list ""
+    describes "2 3 4 5 6 7 8 9 10 11 12 13 14 15 16 17 18 19 20 21 22 23 24" mzv sample ""
     describes "1 2 3" mzv list 4 ""
+    describes "1 2 3" mzv reduce 4 ""
     describes "" mzv list 25 ""
     describes "modulus, from 3 to 9223372036854775807" mzv dual ""
+    describes "modulus, from 3 to 9223372036854775807" mzv probe 10 ""
+    describes "lex odd" mzv reduce 4 3 101 ""
+    describes "count of lines, at most 100000" mzv sample 4 3 101 1 ""
+    describes "" mzv dual 101 ""
 else
     echo "zsh is missing: its completion is not asked"
 fi

@@ -3,9 +3,9 @@
 
     tests/layers.py
 
-The map of docs/LAYERS.md has each crate once, in a row above those of the crates that it stands on; README.md has a row for it, and
-docs/CLAIMS.md a heading or a sentence. Crates of tests, whose names end with _tests, promise nothing, and docs/TESTING.md alone has
-a row for each. The last line is 'N passed, M failed'.
+The map of docs/LAYERS.md has each crate once, in a row above those of the crates that it stands on; README.md has a row that begins with
+it, alone or beside others, and docs/CLAIMS.md a heading or a sentence. Crates of tests, whose names end with _tests, promise nothing, and
+docs/TESTING.md alone has a row for each. The last line is 'N passed, M failed'.
 """
 import os
 import re
@@ -33,7 +33,8 @@ def rows():
 def main():
     crates, shown = listed(), rows()
     place = {name: i for i, row in enumerate(shown) for name in row}
-    table = re.findall(r"^\| `(\w+)` \|", read(os.path.join(ROOT, "README.md")), re.M)
+    cells = re.findall(r"^\| ((?:`\w+`(?:, )?)+) \|", read(os.path.join(ROOT, "README.md")), re.M)
+    table = [name for cell in cells for name in re.findall(r"\w+", cell)]
     claims = read(os.path.join(ROOT, "docs", "CLAIMS.md"))
     tested = re.findall(r"^\| `(\w+_tests)` \|", read(os.path.join(ROOT, "docs", "TESTING.md")), re.M)
     wrong = ["docs/LAYERS.md: %s is no crate" % name for name in place if name not in crates]

@@ -3,9 +3,9 @@
 
 replies_before_the_next_read.py PATH_TO_MZV
 
-The program runs as `mzv dual 101` between two pipes, as another program would use it: a line is written, and its
-reply is waited for before the next line. A line in two pieces gets its reply once its end is there, and one without
-the byte 10 at the end of the input. Ends with status 0 where all replies came in time, and with 1 else.
+The program runs as `mzv dual 101`, `mzv reduce 4 3 101 lex` and `mzv probe 2 101` between two pipes, as another program would use
+it: a line is written, and its reply is waited for before the next line. A line in two pieces gets its reply once its end is there,
+and one without the byte 10 at the end of the input. Ends with status 0 where all replies came in time, and with 1 else.
 """
 
 import os
@@ -15,14 +15,27 @@ import sys
 
 SECONDS = 10
 
-TALK = [
-    (b"z(2,1)-z(3)\n", b"0\n"),
-    (b"z(3,1)+z(2)\n", b"1*z(2)+1*z(3,1)\n"),
-    (b"z(3\n", b"syntax 3\n"),
-    (b"\n", b"syntax 0\n"),
-    (b"z(2)\nz(4)\n", b"1*z(2)\n1*z(4)\n"),
-    (b"z(2,1)+", b""),
-    (b"z(3)\n", b"2*z(3)\n"),
+# The words of each run, what is written and what is to come, and the last line, which nothing ends, with its reply.
+TALKS = [
+    ("dual 101", [
+        (b"z(2,1)-z(3)\n", b"0\n"),
+        (b"z(3,1)+z(2)\n", b"1*z(2)+1*z(3,1)\n"),
+        (b"z(3\n", b"syntax 3\n"),
+        (b"\n", b"syntax 0\n"),
+        (b"z(2)\nz(4)\n", b"1*z(2)\n1*z(4)\n"),
+        (b"z(2,1)+", b""),
+        (b"z(3)\n", b"2*z(3)\n"),
+    ], (b"z(5)", b"1*z(5)\n")),
+    ("reduce 4 3 101 lex", [
+        (b"z(3,1)\n", b"91*z(2)^2\n"),
+        (b"2*z(4) - z(2,1", b""),
+        (b",1)\nz(2)\n", b"61*z(2)^2\nweight 2\n"),
+    ], (b"z(2)*z(2)", b"1*z(2)^2\n")),
+    ("probe 2 101", [
+        (b"z(2)\n", b"77\n"),
+        (b"2*z(2,2)+", b""),
+        (b"z(4)\n", b"71\n"),
+    ], (b"z(1)", b"52\n")),
 ]
 
 
@@ -39,25 +52,31 @@ def reply(pipe, wanted):
     return read
 
 
+def fault_of(program, talk, end):
+    """What went wrong in a conversation, if something did."""
+    for line, wanted in talk:
+        program.stdin.write(line)
+        came = reply(program.stdout, wanted)
+        if came != wanted:
+            return f"{line!r}: {wanted!r} was to come before the next read, and {came!r} came"
+    line, wanted = end
+    program.stdin.write(line)
+    program.stdin.close()
+    came, status = program.stdout.read(), program.wait(SECONDS)
+    return None if (came, status) == (wanted, 0) else f"at the end {came!r} came, with status {status}"
+
+
 def main():
-    program = subprocess.Popen([sys.argv[1], "dual", "101"], bufsize=0, stdin=subprocess.PIPE, stdout=subprocess.PIPE)
-    try:
-        for line, wanted in TALK:
-            program.stdin.write(line)
-            came = reply(program.stdout, wanted)
-            if came != wanted:
-                print(f"{line!r}: {wanted!r} was to come before the next read, and {came!r} came")
-                return 1
-        program.stdin.write(b"z(5)")
-        program.stdin.close()
-        rest = program.stdout.read()
-        status = program.wait(SECONDS)
-        if (rest, status) != (b"1*z(5)\n", 0):
-            print(f"at the end {rest!r} came, with status {status}")
+    for words, talk, end in TALKS:
+        program = subprocess.Popen([sys.argv[1]] + words.split(), bufsize=0, stdin=subprocess.PIPE, stdout=subprocess.PIPE)
+        try:
+            fault = fault_of(program, talk, end)
+        finally:
+            program.kill()
+        if fault:
+            print(f"mzv {words}: {fault}")
             return 1
-    finally:
-        program.kill()
-    print(f"{len(TALK) + 1} replies came in time")
+    print(f"{sum(len(talk) + 1 for _, talk, _ in TALKS)} replies came in time")
     return 0
 
 

@@ -1,48 +1,15 @@
 """The lines that `dual` reads, and its replies."""
 import re
 
+from .grammars import SMALL, Refused, check_syntax
 from .words import MAX_WEIGHT, representative, text, word_of
 
-MAX_LINE = 4096
-BLANKS = b" \t\r"
-DIGITS = b"0123456789"
 TOKEN = re.compile(rb"[0-9]+|[^ \t\r]")
-
-# Where a reader of the grammar stands, and where each byte takes it; a line may end behind a zeta alone. From every place some bytes
-# end a line, so the bytes that it passes are the longest prefix that begins one.
-MOVES = {
-    "start": {b"+-": "sign", b"z": "letter", BLANKS: "start"},
-    "sign": {b"z": "letter", BLANKS: "sign"},
-    "letter": {b"(": "index", BLANKS: "letter"},
-    "index": {DIGITS[1:]: "one digit", BLANKS: "index"},
-    "one digit": {DIGITS: "two digits", b",": "index", b")": "zeta", BLANKS: "number"},
-    "two digits": {DIGITS: "number", b",": "index", b")": "zeta", BLANKS: "number"},
-    "number": {b",": "index", b")": "zeta", BLANKS: "number"},
-    "zeta": {b"+-": "sign", BLANKS: "zeta"},
-}
-
-
-class Refused(Exception):
-    """A line that is not accepted, with its reply."""
-
-
-def check_syntax(line):
-    """Refuses a line that is too long or none of the grammar."""
-    if len(line) > MAX_LINE:
-        raise Refused(b"line too long")
-    place = "start"
-    for at, byte in enumerate(line):
-        places = [there for some, there in MOVES[place].items() if byte in some]
-        if not places:
-            raise Refused(b"syntax %d" % at)
-        place = places[0]
-    if place != "zeta":
-        raise Refused(b"syntax %d" % len(line))
 
 
 def terms_of(line):
     """The terms of an accepted line, each a sign and an index."""
-    check_syntax(line)
+    check_syntax(SMALL, line)
     terms, sign, ones = [], 1, []
     for found in TOKEN.finditer(line):
         token = found.group()
