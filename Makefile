@@ -1,5 +1,5 @@
 # make          proves all that the program stands on, and builds it: crates/mzv/out/mzv
-# make try      runs the program unproved, in seconds
+# make try      runs the program unproved
 # make check    the gate: every proof, wrong body, test and program, from nothing
 # make test     the scripts of tests/ on the built program
 # make bench    times proved programs beside plain ones
@@ -20,7 +20,7 @@ all: kit
 	cd crates/mzv && rt run -- list 2 1 </dev/null
 
 try: kit
-	cd crates/mzv && rt try -- dual 101 <../../examples/dual.txt
+	cd crates/mzv && rt try -- reduce 5 4 101 lex <../../examples/weight5.txt
 
 check: kit
 	rt ci

@@ -1,11 +1,12 @@
 # Completion of mzv for bash.
 
 _mzv() {
-    local current=${COMP_WORDS[COMP_CWORD]} candidates=
+    local current=${COMP_WORDS[COMP_CWORD]} command=${COMP_WORDS[1]} candidates=
     case $COMP_CWORD in
-    1) candidates="dual list" ;;
-    2) [[ ${COMP_WORDS[1]} == list ]] && candidates=$(seq 2 24) ;;
-    3) [[ ${COMP_WORDS[1]} == list && ${COMP_WORDS[2]} =~ ^[0-9]{1,2}$ ]] && candidates=$(seq 1 $((10#${COMP_WORDS[2]} - 1))) ;;
+    1) candidates="dual list reduce sample probe" ;;
+    2) [[ $command == @(list|reduce|sample) ]] && candidates=$(seq 2 24) ;;
+    3) [[ $command == @(list|reduce|sample) && ${COMP_WORDS[2]} =~ ^[0-9]{1,2}$ ]] && candidates=$(seq 1 $((10#${COMP_WORDS[2]} - 1))) ;;
+    5) [[ $command == reduce ]] && candidates="lex odd" ;;
     esac
     mapfile -t COMPREPLY < <(compgen -W "$candidates" -- "$current")
 }
