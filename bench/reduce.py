@@ -15,7 +15,7 @@ import time
 
 MODULUS = "2305843009213693951"
 TABLES = ((10, 9), (11, 10), (12, 11), (13, 12), (24, 4))
-LINES = ((8, 7, 100000), (13, 12, 5000))
+LINES = ((8, 7, 100000), (13, 12, 100000))
 
 
 def seconds_of(words, path=os.devnull):
