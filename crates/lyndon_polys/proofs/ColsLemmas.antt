@@ -1,16 +1,15 @@
 -- The rows of sums that are added.
-use Rattle.std.specs.Prelude.{◌≡◌, ℕ, ◌+◌, ◌*◌, ◌%◌, ◌<◌, ◌≤◌, cond, eqb, List, [], ◌∷◌, length}
-use Rattle.std.proofs.Common.{refl, sym, ◌∙◌, ap, inl, inr, Bool, true, false, arith}
+use Rattle.std.specs.Prelude.{◌≡◌, ℕ, ◌+◌, ◌*◌, ◌%◌, ◌<◌, cond, eqb, List, [], ◌∷◌, length}
+use Rattle.std.proofs.Common.{refl, sym, ◌∙◌, ap, inl, inr, arith}
 use Rattle.std.proofs.lemmas.Bool.Decides.{eqb_tells}
 use Rattle.zeta_model.specs.declared.Letter.{Letter}
-use Rattle.zeta_model.specs.Modular.{Same}
 use Rattle.zeta_model.specs.Sums.{Sum, SameSum}
 use Rattle.zeta_model.proofs.ModularLemmas.{same-add, same-mul_left}
 use Rattle.linear_model.specs.Rows.{total, SameRow}
 use Rattle.linear_model.proofs.Totals.{total-add, mul-total, total_alike, total_vanishes}
 use Rattle.column_order.specs.Columns.{ColumnList}
 use Rattle.table_model.specs.MonomialWords.{column_at, words_of_monomial, words_of_row}
-use Rattle.table_model.specs.Conversion.{IsOver, IsCols}
+use Rattle.table_model.specs.Conversion.{IsCols}
 use Rattle.table_model.proofs.RowWords.{same-words_of_row}
 use Rattle.table_model.proofs.Bridges.{unit_row-is}
 use Rattle.lyndon_polys.specs.Tables.{entries_of}

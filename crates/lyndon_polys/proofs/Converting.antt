@@ -1,5 +1,5 @@
 -- Steps of `to_words`: the words of one column more, and the law.
-use Rattle.std.proofs.Common.{◌≡◌, ℕ, ◌+◌, ◌*◌, ◌%◌, ◌<◌, ◌≤◌, Bool, true, List, [], ◌∷◌, length, refl, sym, ◌∙◌, ap, subst, arith, mod-eq_of_lt}
+use Rattle.std.proofs.Common.{◌≡◌, ℕ, ◌+◌, ◌*◌, ◌%◌, ◌<◌, Bool, true, List, [], ◌∷◌, length, refl, sym, ◌∙◌, ap, subst, arith, mod-eq_of_lt}
 use Rattle.zeta_model.specs.declared.Letter.{Letter}
 use Rattle.zeta_model.specs.Modular.{Same}
 use Rattle.zeta_model.proofs.ModularLemmas.{same-add_right, same-add_left, same-mul_left, same-mod}
@@ -8,8 +8,6 @@ use Rattle.word_sums.specs.Sums.{IsSum, IsSumOf}
 use Rattle.word_sums.proofs.SumLemmas.{IsSum_below}
 use Rattle.sparse_rows.specs.Entries.{IsRow, IsBelow, AllIn}
 use Rattle.sparse_rows.proofs.EntryLemmas.{entry_of_below}
-use Rattle.sparse_rows.proofs.SameRows.{same_row}
-use Rattle.linear_model.specs.Rows.{SameRow}
 use Rattle.column_order.specs.Columns.{ColumnList}
 use Rattle.table_model.specs.MonomialWords.{column_at, words_of_monomial, words_of_row}
 use Rattle.table_model.specs.Conversion.{IsTable, Converts, IsOver, IsCols}

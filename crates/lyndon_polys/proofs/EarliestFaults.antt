@@ -1,5 +1,5 @@
 -- The first word whose coefficient has no inverse, among the words of the first columns.
-use Rattle.std.specs.Prelude.{◌≡◌, ℕ, ◌+◌, ◌%◌, ◌<◌, ◌≤◌, ◌⊎◌, Bool, true, false, cond, Option, Some, None, IfSome, IfNone, List, length}
+use Rattle.std.specs.Prelude.{◌≡◌, ℕ, ◌+◌, ◌%◌, ◌<◌, ◌≤◌, Bool, true, false, cond, Option, Some, None, IfSome, IfNone, List, length}
 use Rattle.std.proofs.Common.{refl, sym, ◌∙◌, ap, subst, inl, inr, arith, mod-eq_of_lt}
 use Rattle.std.proofs.lemmas.Bool.{cases_eq}
 use Rattle.std.proofs.lemmas.Cmp.{tied_itself}
@@ -16,8 +16,6 @@ use Rattle.lyndon_words.proofs.OneWay.{IsFactors-unique}
 use Rattle.column_order.specs.Columns.{ColumnList}
 use Rattle.zeta_model.specs.Inverses.{HasInverse}
 use Rattle.leading_word.proofs.Leading.{no_inverse-leading}
-use Rattle.leading_word.specs.Shuffles.{words_of}
-use Rattle.zeta_model.specs.Sums.{sum_of}
 use Rattle.zeta_model.proofs.ModularLemmas.{same-mod}
 use Rattle.table_model.specs.MonomialWords.{column_at, words_of_monomial}
 use Rattle.table_model.specs.Conversion.{IsTable, IsTableWord, ConvertsAt, Converts}

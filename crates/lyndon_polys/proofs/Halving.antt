@@ -1,6 +1,6 @@
 -- Looking for a word by halves among words that increase.
-use Rattle.std.specs.Prelude.{◌≡◌, ℕ, zero, suc, ◌+◌, ◌<◌, ◌≤◌, ◌⊎◌, List, [], ◌∷◌, length, get_or, Contains}
-use Rattle.std.proofs.Common.{refl, sym, ◌∙◌, ap, subst, inl, inr, arith}
+use Rattle.std.specs.Prelude.{◌≡◌, ℕ, zero, suc, ◌+◌, ◌<◌, ◌≤◌, List, [], ◌∷◌, length, get_or, Contains}
+use Rattle.std.proofs.Common.{refl, true, sym, ◌∙◌, ap, subst, inl, inr, arith}
 use Rattle.std.proofs.lemmas.Bool.{cases_order}
 use Rattle.std.proofs.lemmas.List.{get_or_default}
 use Rattle.std.proofs.lemmas.Map.Keys.{Less-from_sorted}
@@ -8,11 +8,11 @@ use Rattle.std.specs.Cmp.{IsTotalOrder}
 use Rattle.std.specs.List.Sorted.{IsStrictlySortedBy}
 use Rattle.std.specs.Map.{keys_of}
 use Rattle.std.specs.Ordering.{ordering_reverse}
-use Rattle.std.specs.declared.cmp.Ordering.{Ordering}
 use Rattle.std.specs.declared.cmp.Ordering.TheVariants.{Less, Equal, Greater}
 use Rattle.zeta_model.specs.declared.Letter.{Letter}
+use Rattle.zeta_model.specs.Sums.{same_word}
 use Rattle.zeta_model.specs.Words.{word_cmp}
-use Rattle.zeta_model.proofs.WordOrder.{word_cmp_total, word_cmp-IsAntisymmetric}
+use Rattle.zeta_model.proofs.WordOrder.{word_cmp_total, word_cmp-IsAntisymmetric, same_word-one}
 use Rattle.lyndon_polys.proofs.EarliestFaults.{not_before_itself, before_through}
 
 abbrev Word : Type 0
@@ -82,3 +82,9 @@ module _ {X : Type 0} where
 
   pub all_between : (rows : List (Word × X)) (word : Word) → Between rows word 0 (length rows)
   all_between rows word i l e = (omega arith, l)
+
+  -- the word stands at a place that was guessed
+  pub at_guess : (rows : List (Word × X)) (word : Word) (place : ℕ) (row : Word × X) → row ≡ get_or rows place row → place < length rows
+      → same_word row.0 word ≡ true → Contains rows (word, row.1)
+  at_guess rows word place row is within same =
+      subst (λ v. Contains rows (v, row.1)) (same_word-one row.0 word same) (place, within, sym is)

@@ -1,5 +1,5 @@
 -- Inverses that a ring finds, and opposites.
-use Rattle.std.proofs.Common.{◌≡◌, ◌≢◌, ℕ, ◌+◌, ◌-◌, ◌*◌, ◌%◌, ◌<◌, List, refl, sym, ◌∙◌, ap, arith, mod-eq_of_lt}
+use Rattle.std.proofs.Common.{◌≡◌, ◌≢◌, ℕ, ◌+◌, ◌-◌, ◌*◌, ◌%◌, ◌<◌, List, sym, ◌∙◌, ap, arith, mod-eq_of_lt}
 use Rattle.std.proofs.lemmas.Nat.{mod_below}
 use Rattle.std.proofs.Math.Nat.{add-mod-mod}
 use Rattle.zeta_model.specs.declared.Letter.{Letter}

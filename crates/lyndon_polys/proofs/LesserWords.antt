@@ -1,11 +1,11 @@
 -- The words of a monomial but its own, and the row of a word from those of the lesser words.
-use Rattle.std.specs.Prelude.{◌≡◌, ◌≢◌, ℕ, ◌+◌, ◌*◌, ◌%◌, ◌<◌, ◌≤◌, ◌⊎◌, Bool, true, cond, List, length, All, Contains}
+use Rattle.std.specs.Prelude.{◌≡◌, ℕ, ◌+◌, ◌*◌, ◌%◌, ◌<◌, ◌≤◌, ◌⊎◌, Bool, true, cond, List, All, Contains}
 use Rattle.std.proofs.Common.{refl, sym, ◌∙◌, ap, subst, inl, inr, zero, suc, arith, mod-eq_of_lt}
 use Rattle.std.specs.Map.{keys_of}
 use Rattle.std.proofs.lemmas.List.Elements.{All-weaker, All-contains_itself}
 use Rattle.zeta_model.specs.declared.Letter.{Letter}
 use Rattle.zeta_model.specs.Modular.{Same}
-use Rattle.zeta_model.specs.Sums.{Sum, SameSum, same_word, single}
+use Rattle.zeta_model.specs.Sums.{Sum, SameSum, single}
 use Rattle.zeta_model.proofs.ModularLemmas.{same-add, same-add_right, same-add_left, same-mul_right, same-mul_left, same-mod, same-cancel}
 use Rattle.zeta_model.proofs.ProductWords.{single-other}
 use Rattle.zeta_model.proofs.WordOrder.{same_word-itself}
@@ -14,8 +14,8 @@ use Rattle.word_sums.proofs.KnownTerms.{held}
 use Rattle.word_sums.proofs.TermLemmas.{coefficient_of_below}
 use Rattle.lyndon_words.specs.Lyndon.{IsBefore, IsFactors, joined}
 use Rattle.column_order.specs.Columns.{ColumnList, IsColumn}
-use Rattle.table_model.specs.MonomialWords.{column_at, words_of_monomial}
-use Rattle.table_model.specs.Conversion.{IsTableWord, IsCols}
+use Rattle.table_model.specs.MonomialWords.{words_of_monomial}
+use Rattle.table_model.specs.Conversion.{IsTableWord}
 use Rattle.table_model.proofs.FirstFaults.{before_cases}
 use Rattle.table_model.proofs.ShuffledWords.{shuffled-words, words_of-above}
 use Rattle.lyndon_polys.specs.Tables.{entries_of}

@@ -1,5 +1,5 @@
 -- Steps of `shuffled`: one factor more.
-use Rattle.std.proofs.Common.{◌≡◌, ℕ, zero, suc, ◌+◌, ◌%◌, ◌<◌, ◌≤◌, Bool, true, List, [], ◌∷◌, ◌++◌, length, take, get_or, slice_get, Some, refl}
+use Rattle.std.proofs.Common.{◌≡◌, ℕ, zero, suc, ◌+◌, ◌%◌, ◌<◌, ◌≤◌, Bool, true, List, [], ◌∷◌, ◌++◌, length, take, slice_get, Some, refl}
 use Rattle.std.proofs.Common.{sym, ◌∙◌, ap, subst, arith, length-append}
 use Rattle.std.specs.Prelude.{All}
 use Rattle.std.specs.List.{flat_map}
@@ -7,7 +7,6 @@ use Rattle.std.specs.Map.{keys_of}
 use Rattle.std.proofs.lemmas.List.{take_more, take_all}
 use Rattle.std.proofs.lemmas.Option.{get_or_from_slice_get}
 use Rattle.zeta_model.specs.declared.Letter.{Letter}
-use Rattle.zeta_model.specs.Modular.{Same}
 use Rattle.zeta_model.specs.Alphabets.{shuffle_of}
 use Rattle.zeta_model.specs.Sums.{single, sum_of, continued, numbered}
 use Rattle.zeta_model.proofs.Totals.{total-flat_map}

@@ -1,10 +1,11 @@
 -- The numbers that a list of elements stands for.
-use Rattle.std.proofs.Common.{◌≡◌, ◌≢◌, ℕ, zero, suc, inl, inr, ◌<◌, ◌≤◌, List, [], ◌∷◌, ◌++◌, map, length, set, get_or, sym, ◌∙◌, ap, arith}
+use Rattle.std.proofs.Common.{◌≡◌, ◌≢◌, ℕ, zero, suc, inl, inr, ◌<◌, ◌≤◌, List, [], ◌∷◌, ◌++◌, map, length, set, get_or, take, refl, sym, ◌∙◌, ap, arith}
 use Rattle.std.proofs.lemmas.List.{map-set, map-append, length-map, get_or-map, get_or-set_same, get_or-set_other, get_or_append_left, get_or_past}
-use Rattle.std.proofs.lemmas.List.{length-append}
+use Rattle.std.proofs.lemmas.List.{length-append, length-replicate, get_or-replicate}
+use Rattle.std.specs.Prelude.{replicate}
 use Rattle.std.specs.List.{All}
 use Rattle.std.proofs.lemmas.List.Elements.{All-append}
-use Rattle.std.proofs.lemmas.Bool.{cases_order}
+use Rattle.std.proofs.lemmas.Bool.{cases_order, cases_lt}
 use Rattle.std.proofs.Math.Seq.{get_or-append_seam}
 use Rattle.lyndon_polys.specs.Inner.{numbers_of}
 
@@ -40,6 +41,21 @@ module _ {A : Type 0} (value : A → ℕ) (xs : List A) where
       | inr more ↦ get_or_past (map value (xs ++ x ∷ [])) i 0 (omega (arith, length-map (xs ++ x ∷ []) value, length-append xs (x ∷ [])))
     ]
   ]
+
+-- so are a list without elements and a zero as often as you like
+pub zeros_filled : {A : Type 0} (value : A → ℕ) (n k : ℕ) (old new : List A) (x : A) → old ≡ [] → new ≡ take n old ++ replicate k x → value x ≡ 0
+    → (i : ℕ) → numbers_of value new i ≡ 0
+zeros_filled value n k old new x none filled vanishes i =
+    ap (λ xs. numbers_of value xs i) (filled ∙ ap (λ xs. take n xs ++ replicate k x) none ∙ empty n)
+    ∙ elim (cases_lt i k) [
+      | inl less ↦ sym (numbers_of-get value (replicate k x) i x (omega (arith, less, length-replicate k x)))
+          ∙ ap value (get_or-replicate k i x x less) ∙ vanishes
+      | inr past ↦ numbers_of-past value (replicate k x) i (omega (arith, past, length-replicate k x))
+    ]
+  where
+    empty : (j : ℕ) → take j [] ++ replicate k x ≡ replicate k x
+    empty zero = refl
+    empty (suc j) = refl
 
 All-one : {A : Type 0} (P : A → Type 0) (x : A) → P x → All P (x ∷ [])
 All-one P x h zero d l = h

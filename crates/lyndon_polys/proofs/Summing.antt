@@ -1,5 +1,5 @@
 -- Steps of `row_of_sum`: the row of one word more is added.
-use Rattle.std.proofs.Common.{◌≡◌, ℕ, ◌+◌, ◌*◌, ◌%◌, ◌<◌, ◌≤◌, Bool, true, List, [], ◌∷◌, ◌++◌, length, take, drop, Result, Ok, Err, refl, sym, ap}
+use Rattle.std.proofs.Common.{◌≡◌, ℕ, ◌+◌, ◌*◌, ◌%◌, Bool, true, List, [], ◌∷◌, ◌++◌, length, take, drop, Result, Ok, Err, refl, sym, ap}
 use Rattle.std.proofs.Common.{subst, ◌∙◌, arith}
 use Rattle.std.specs.Prelude.{All, Contains, IfOk}
 use Rattle.std.specs.Map.{keys_of, values_of}
@@ -32,43 +32,48 @@ ok_from P Q S U f (Err e) p q s = p
 
 module _ {A E : Type 0} (m k : ℕ) (has : E → Bool) (value : E → ℕ) (is_sum : A → Type 0) (total : A
     → ℕ) (columns : ColumnList) (rows : List (Word × List (ℕ × E))) (start : List (ℕ × E)) (whole : List (Word × E)) where
-  -- from a sum whose row the start is: a sum whose row the accumulators are, so that with what is left to add it is the one that is wanted
-  pub record Reached (s : Sum) (sums : List A) (rest : List (Word × E)) : Type 0 where
+  -- from a sum whose row the start is: a sum whose row the accumulators are, with the row that waits, so that with what is left to add it is
+  -- the one that is wanted
+  pub record Reached (s : Sum) (sums : List A) (coefficient : E) (waiting : List (ℕ × E)) (rest : List (Word × E)) : Type 0 where
     pub reached : Sum
-    pub cols : IsCols m columns reached (numbers_of total sums)
+    pub cols : IsCols m columns reached (λ q. numbers_of total sums q + value coefficient * entries_of value waiting q)
     pub same : (t : Word) → Same m (reached t + k * coefficient_of value rest t) (s t + k * coefficient_of value whole t)
 
-  pub record Summing (sums : List A) (rest : List (Word × E)) : Type 0 where
+  pub record Summing (sums : List A) (coefficient : E) (waiting : List (ℕ × E)) (rest : List (Word × E)) : Type 0 where
     pub len : length sums ≡ length columns.list
     pub all_sums : All is_sum sums
+    pub has_coefficient : has coefficient ≡ true
+    pub below : IsBelow (λ q. q) (length columns.list) waiting
+    pub waiting_in : AllIn has waiting
     pub rest_in : AllTermsIn has rest
     pub rest_known : All (Contains (keys_of rows)) (keys_of rest)
-    pub reaches : (s : Sum) → IsCols m columns s (entries_of value start) → Reached s sums rest
+    pub reaches : (s : Sum) → IsCols m columns s (entries_of value start) → Reached s sums coefficient waiting rest
 
--- nothing is added yet but the start
-pub Summing-start : {A E : Type 0} (m k one : ℕ) (has : E → Bool) (value : E → ℕ) (is_sum : A → Type 0) (total : A
-    → ℕ) (columns : ColumnList) (rows : List (Word × List (ℕ × E))) (start : List (ℕ × E)) (whole : List (Word × E)) (none sums : List A)
-    → length sums ≡ length columns.list → All is_sum sums → AllTermsIn has whole → All (Contains (keys_of rows)) (keys_of whole)
-    → one ≡ 1 → ((q : ℕ) → numbers_of total none q ≡ 0) → SameRow m (numbers_of total sums) (λ q. numbers_of total none q + one * entries_of value start q)
-    → Summing m k has value is_sum total columns rows start whole sums whole
-Summing-start m k one has value is_sum total columns rows start whole none sums len all_sums in_ring known is_one zeros gives = record {
-  len = len;
-  all_sums = all_sums;
-  rest_in = in_ring;
-  rest_known = known;
-  reaches = λ s h. record {
-    reached = s;
-    cols = cols_same m columns s s (entries_of value start) (numbers_of total sums) (λ t. refl)
-        (λ q. ap (λ x. x % m) (let e : entries_of value start q ≡ 0 + 1 * entries_of value start q = omega arith in e)
-        ∙ (λ i. (sym (zeros q) i + sym is_one i * entries_of value start q) % m) ∙ sym (gives q)) h;
-    same = λ t. refl;
-  };
-}
+  -- nothing is added yet, and the start waits
+  pub Summing-start : (sums : List A) (one : E) → length sums ≡ length columns.list → All is_sum sums → has one ≡ true → value one ≡ 1
+      → IsBelow (λ q. q) (length columns.list) start → AllIn has start → AllTermsIn has whole → All (Contains (keys_of rows)) (keys_of whole)
+      → ((q : ℕ) → numbers_of total sums q ≡ 0) → Summing sums one start whole
+  Summing-start sums one len all_sums has_one is_one below start_in in_ring known zeros = record {
+    len = len;
+    all_sums = all_sums;
+    has_coefficient = has_one;
+    below = below;
+    waiting_in = start_in;
+    rest_in = in_ring;
+    rest_known = known;
+    reaches = λ s h. record {
+      reached = s;
+      cols = cols_same m columns s s (entries_of value start) (λ q. numbers_of total sums q + value one * entries_of value start q) (λ t. refl)
+          (λ q. ap (λ x. x % m) (let e : entries_of value start q ≡ 0 + 1 * entries_of value start q = omega arith in e)
+          ∙ (λ i. (sym (zeros q) i + sym is_one i * entries_of value start q) % m)) h;
+      same = λ t. refl;
+    };
+  }
 
 module _ {A E : Type 0} (m k : ℕ) (has : E → Bool) (value : E → ℕ) (is_sum : A → Type 0) (total : A
     → ℕ) (columns : ColumnList) (rows : List (Word × List (ℕ × E))) (start : List (ℕ × E)) (whole : List (Word × E))
-    (sums : List A) (before rest : List (Word × E)) (w : Word) (a : E) (is : before ≡ (w, a) ∷ rest)
-    (kept : Summing m k has value is_sum total columns rows start whole sums before) where
+    (sums : List A) (coefficient : E) (waiting : List (ℕ × E)) (before rest : List (Word × E)) (w : Word) (a : E) (is : before ≡ (w, a) ∷ rest)
+    (kept : Summing m k has value is_sum total columns rows start whole sums coefficient waiting before) where
   -- the next element is of the ring, and the next word has a row
   pub next_in : has a ≡ true
   next_in = All-head (λ b. has b ≡ true) a (values_of rest) (subst (AllTermsIn has) is kept.rest_in)
@@ -87,42 +92,50 @@ module _ {A E : Type 0} (m k : ℕ) (has : E → Bool) (value : E → ℕ) (is_s
       let sum : r + k * value a * y + k * s ≡ r + k * (value a * y + s) = grind arith in
       same-add_right m (r + x * y) (r + k * value a * y) (k * s) one ∙ ap (λ z. z % m) sum
 
-  pub Summing-next : (x : ℕ) (row : List (ℕ × E)) (new : List A) → x ≡ k * value a % m → IsRowOf m has value columns (single w) row
-      → length new ≡ length sums → All is_sum new
-      → SameRow m (numbers_of total new) (λ q. numbers_of total sums q + x * entries_of value row q)
-      → Summing m k has value is_sum total columns rows start whole new rest
-  Summing-next x row new product is_row len all_sums gives = record {
+  -- the row that waits is added, and that of the next word waits
+  pub Summing-next : (x : E) (row : List (ℕ × E)) (new : List A) → has x ≡ true → value x ≡ k * value a % m
+      → IsRowOf m has value columns (single w) row → length new ≡ length sums → All is_sum new
+      → SameRow m (numbers_of total new) (λ q. numbers_of total sums q + value coefficient * entries_of value waiting q)
+      → Summing m k has value is_sum total columns rows start whole new x row rest
+  Summing-next x row new has_x product is_row len all_sums gives = record {
     len = len ∙ kept.len;
     all_sums = all_sums;
+    has_coefficient = has_x;
+    below = is_row.below;
+    waiting_in = is_row.in_ring;
     rest_in = All-tail (λ b. has b ≡ true) a (values_of rest) (subst (AllTermsIn has) is kept.rest_in);
     rest_known = All-tail (Contains (keys_of rows)) w (keys_of rest) (subst (λ es. All (Contains (keys_of rows)) (keys_of es)) is kept.rest_known);
     reaches = λ s h.
-        let r : Reached m k has value is_sum total columns rows start whole s sums before = kept.reaches s h in
+        let r : Reached m k has value is_sum total columns rows start whole s sums coefficient waiting before = kept.reaches s h in
+        let old : ℕ → ℕ = λ q. numbers_of total sums q + value coefficient * entries_of value waiting q in
         record {
-          reached = λ t. r.reached t + x * single w t;
-          cols = cols_same m columns (λ t. r.reached t + x * single w t) (λ t. r.reached t + x * single w t)
-              (λ q. numbers_of total sums q + x * entries_of value row q) (numbers_of total new) (λ t. refl) (λ q. sym (gives q))
-              (cols_plus m columns r.reached (single w) (numbers_of total sums) (entries_of value row) x r.cols is_row.cols);
+          reached = λ t. r.reached t + value x * single w t;
+          cols = cols_same m columns (λ t. r.reached t + value x * single w t) (λ t. r.reached t + value x * single w t)
+              (λ q. old q + value x * entries_of value row q) (λ q. numbers_of total new q + value x * entries_of value row q) (λ t. refl)
+              (λ q. same-add_right m (old q) (numbers_of total new q) (value x * entries_of value row q) (sym (gives q)))
+              (cols_plus m columns r.reached (single w) old (entries_of value row) (value x) r.cols is_row.cols);
           same = λ t.
-              step x (r.reached t) (coefficient_of value rest t) (single w t) product
+              step (value x) (r.reached t) (coefficient_of value rest t) (single w t) product
               ∙ ap (λ es. (r.reached t + k * coefficient_of value es t) % m) (sym is) ∙ r.same t;
         };
   }
 
--- nothing is left to add, and the accumulators are closed
+-- no word is left, the row that waited is added, and the accumulators are closed
 pub Summing-end : {A E : Type 0} (m k : ℕ) (has : E → Bool) (value : E → ℕ) (is_sum : A → Type 0) (total : A
-    → ℕ) (columns : ColumnList) (rows : List (Word × List (ℕ × E))) (start : List (ℕ × E)) (whole : List (Word × E)) (sums : List A)
-    (rest : List (Word × E)) (row : List (ℕ × E))
-    → rest ≡ [] → Summing m k has value is_sum total columns rows start whole sums rest → IsBelow (λ j. j) (length sums) row → AllIn has row
-    → ((q : ℕ) → entries_of value row q ≡ numbers_of total sums q % m)
+    → ℕ) (columns : ColumnList) (rows : List (Word × List (ℕ × E))) (start : List (ℕ × E)) (whole : List (Word × E)) (sums : List A) (coefficient : E)
+    (waiting : List (ℕ × E)) (rest : List (Word × E)) (new : List A) (row : List (ℕ × E))
+    → rest ≡ [] → Summing m k has value is_sum total columns rows start whole sums coefficient waiting rest → length new ≡ length sums
+    → SameRow m (numbers_of total new) (λ q. numbers_of total sums q + value coefficient * entries_of value waiting q)
+    → IsBelow (λ j. j) (length new) row → AllIn has row → ((q : ℕ) → entries_of value row q ≡ numbers_of total new q % m)
     → (s : Sum) → IsCols m columns s (entries_of value start) → IsRowOf m has value columns (λ t. s t + k * coefficient_of value whole t) row
-Summing-end m k has value is_sum total columns rows start whole sums rest row none kept below in_ring entries s h =
-    let r : Reached m k has value is_sum total columns rows start whole s sums rest = kept.reaches s h in
+Summing-end m k has value is_sum total columns rows start whole sums coefficient waiting rest new row none kept len gives below in_ring entries s h =
+    let r : Reached m k has value is_sum total columns rows start whole s sums coefficient waiting rest = kept.reaches s h in
     record {
-      below = subst (λ n. IsBelow (λ j. j) n row) kept.len below;
+      below = subst (λ n. IsBelow (λ j. j) n row) (len ∙ kept.len) below;
       in_ring = in_ring;
-      cols = cols_same m columns r.reached (λ t. s t + k * coefficient_of value whole t) (numbers_of total sums) (entries_of value row)
+      cols = cols_same m columns r.reached (λ t. s t + k * coefficient_of value whole t)
+          (λ q. numbers_of total sums q + value coefficient * entries_of value waiting q) (entries_of value row)
           (λ t. ap (λ x. x % m) (let e : r.reached t ≡ r.reached t + k * 0 = omega arith in e)
           ∙ ap (λ es. (r.reached t + k * coefficient_of value es t) % m) (sym none) ∙ r.same t)
-          (λ q. sym (same-mod m (numbers_of total sums q)) ∙ ap (λ x. x % m) (sym (entries q))) r.cols;
+          (λ q. sym (gives q) ∙ sym (same-mod m (numbers_of total new q)) ∙ ap (λ x. x % m) (sym (entries q))) r.cols;
     }

@@ -1,5 +1,5 @@
 -- What the answers of a table's making tell of the first word without an inverse.
-use Rattle.std.proofs.Common.{◌≡◌, ℕ, List, Result, Ok, Err, sym, ◌∙◌, ap, subst}
+use Rattle.std.proofs.Common.{◌≡◌, ℕ, List, Result, Err, ◌∙◌, ap, subst}
 use Rattle.std.specs.Prelude.{◌↔◌, IsErrOf}
 use Rattle.zeta_model.specs.declared.Letter.{Letter}
 use Rattle.column_order.specs.Columns.{ColumnList}
@@ -7,7 +7,7 @@ use Rattle.table_model.specs.Conversion.{Converts}
 use Rattle.table_model.specs.Faults.{IsNotInvertible}
 use Rattle.table_model.proofs.FirstFaults.{not_invertible_unique, not_invertible_word}
 use Rattle.lyndon_polys.specs.declared.fault.LyndonFault.{LyndonFault}
-use Rattle.lyndon_polys.specs.declared.fault.LyndonFault.TheVariants.{NoInverse, Memory}
+use Rattle.lyndon_polys.specs.declared.fault.LyndonFault.TheVariants.{NoInverse}
 
 abbrev Word : Type 0
 Word = List Letter

@@ -19,10 +19,8 @@ pub(crate) fn no_sums<R: Ring>(
     ensures len { IfOk result (λ sums. length sums.items ≡ columns) }
     ensures zero { IfOk result (λ sums. (q : ℕ) → numbers_of (R.total ring.now) sums.items q ≡ 0) }
 {
-    let mut sums = Vec::with_capacity(alloc, columns)?;
-    for _ in 0..columns {
-        sums.push(ring.start_sum())?;
-    }
+    let mut sums = Vec::new(alloc);
+    sums.resize(columns, ring.start_sum())?;
     Ok(sums)
 }
 

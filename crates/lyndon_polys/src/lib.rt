@@ -10,6 +10,7 @@ mod fault;
 mod gathering;
 mod laws;
 mod lyndon_table;
+mod rows_by_word;
 mod shuffles;
 mod table_words;
 mod units;

@@ -13,10 +13,11 @@ ghost use Rattle.table_model.specs.Faults.{IsNotInvertible};
 ghost use Rattle.lyndon_polys.specs.Tables.{entries_of, is_table_word};
 
 use crate::fault::{LyndonFault, OutFault};
+use crate::rows_by_word::WordRows;
 use crate::shuffles::shuffled;
 use crate::table_words::TableWords;
 use crate::units::first_fault;
-use crate::word_rows::{WordRows, row_of_sum, word_rows};
+use crate::word_rows::{row_of_sum, word_rows};
 use column_order::Columns;
 use residues::Ring;
 use sparse_rows::Row;
@@ -43,7 +44,7 @@ impl<R: Ring> Model for LyndonTable<R> {
     ghost view = { λ t. record { ring = t.ring; columns = t.columns } };
 
     ghost invariant = { λ t. IsTable (R.modulus t.ring) t.columns × Converts (R.modulus t.ring) t.columns
-        × AreAllWordRows (R.modulus t.ring) (R.has t.ring) (R.value t.ring) t.columns t.rows.items };
+        × AreAllWordRows (R.modulus t.ring) (R.has t.ring) (R.value t.ring) t.columns t.rows };
 }
 
 impl<R: Ring> LyndonTable<R> {
@@ -116,7 +117,7 @@ impl<R: Ring> LyndonTable<R> {
         if let Some(word) = s.least_failing(&table_words) {
             return Err(OutFault::OutOfTable(word));
         }
-        let alloc = *self.rows.allocator();
+        let alloc = self.rows.allocator();
         let one = self.ring.one();
         let none = Vec::new(alloc);
         match row_of_sum(alloc, &self.ring, &self.columns, &self.rows, &none, one, s) {
@@ -132,7 +133,7 @@ impl<R: Ring> LyndonTable<R> {
         ensures value { IfOk result (IsSumOf R.zero (R.has self.now.ring) (R.value self.now.ring) (R.modulus self.now.ring)
             (words_of_row self.now.columns.list (entries_of (R.value self.now.ring) row.now))) }
     {
-        let alloc = *self.rows.allocator();
+        let alloc = self.rows.allocator();
         let mut sum = WordSum::new(alloc);
         let mut rest = row.entries();
         while let Some((entry, behind)) = rest.split_first() {

@@ -17,6 +17,7 @@ ghost use Rattle.lyndon_polys.specs.Tables.{entries_of};
 ghost use Rattle.lyndon_polys.specs.Inner.{IsRowOf, AreWordRows, AreAllWordRows, leading};
 
 use crate::gathering::{add_entries, gathered, no_sums};
+use crate::rows_by_word::WordRows;
 use crate::shuffles::shuffled;
 use crate::units::leading_inverse;
 use column_order::Columns;
@@ -24,12 +25,8 @@ use lyndon_words::{Monomial, factors};
 use residues::Ring;
 use sparse_rows::Row;
 use std::alloc::{AllocError, Global};
-use std::cmp::Ordering;
 use word_letters::Word;
 use word_sums::WordSum;
-
-/// Words that increase, each with its row.
-pub(crate) type WordRows<R> = Vec<(Word, Row<R>)>;
 
 /// The rows of all words of the columns' weight and depth.
 pub(crate) fn word_rows<R: Ring>(
@@ -39,13 +36,15 @@ pub(crate) fn word_rows<R: Ring>(
 ) -> Result<WordRows<R>, AllocError>
     requires table { IsTable (R.modulus ring.now) columns.now }
     requires converts { Converts (R.modulus ring.now) columns.now }
-    ensures { IfOk result (λ rows. AreAllWordRows (R.modulus ring.now) (R.has ring.now) (R.value ring.now) columns.now rows.items) }
+    ensures { IfOk result (λ rows. AreAllWordRows (R.modulus ring.now) (R.has ring.now) (R.value ring.now) columns.now rows) }
 {
     let words = sorted_words(alloc, columns)?;
-    let mut rows = Vec::with_capacity(alloc, columns.len() as usize)?;
+    let mut rows = WordRows::with_capacity(alloc, columns.len() as usize)?;
     for i in 0..words.len() {
-        let row = word_row(alloc, ring, columns, &rows, words[i])?;
-        rows.push((words[i], row))?;
+        let made = word_row(alloc, ring, columns, &rows, words[i])?;
+        // A copy takes no more memory than it needs, so that the rows lie close together.
+        let row = made.copy()?;
+        rows.push(words[i], row)?;
     }
     Ok(rows)
 }
@@ -71,7 +70,7 @@ fn word_row<R: Ring>(
     alloc: Global,
     ring: &R,
     columns: &Columns,
-    rows: &[(Word, Row<R>)],
+    rows: &WordRows<R>,
     word: Word,
 ) -> Result<Row<R>, AllocError>
     requires table { IsTable (R.modulus ring.now) columns.now }
@@ -125,7 +124,7 @@ pub(crate) fn row_of_sum<R: Ring>(
     alloc: Global,
     ring: &R,
     columns: &Columns,
-    rows: &[(Word, Row<R>)],
+    rows: &WordRows<R>,
     start: &[(u16, R::Elem)],
     scale: R::Elem,
     sum: &WordSum<R>,
@@ -141,32 +140,18 @@ pub(crate) fn row_of_sum<R: Ring>(
         (λ t. s t + R.value ring.now scale * coefficient_of (R.value ring.now) sum.now t) row) }
 {
     let mut sums = no_sums(alloc, ring, columns.len() as usize)?;
-    add_entries(ring, &mut sums, ring.one(), start);
+    // A row waits until the next one is found, so that its entries need not wait for the search.
+    let mut waiting = start;
+    let mut coefficient = ring.one();
     for (word, residue) in sum.iter() {
-        match row_at(rows, *word) {
-            Some(row) => add_entries(ring, &mut sums, ring.mul(scale, *residue), row.entries()),
+        let row = match rows.find(*word) {
+            Some(row) => row,
             None => unreachable!(),
-        }
+        };
+        add_entries(ring, &mut sums, coefficient, waiting);
+        waiting = row.entries();
+        coefficient = ring.mul(scale, *residue);
     }
+    add_entries(ring, &mut sums, coefficient, waiting);
     gathered(alloc, ring, &sums)
-}
-
-/// The row that stands with the word, by halves.
-fn row_at<'a, R: Ring>(rows: &'a [(Word, Row<R>)], word: Word) -> Option<&'a Row<R>>
-    requires { IsStrictlySortedBy word_cmp (keys_of rows.now) }
-    ensures some { IfSome result (λ row. Contains rows.now (word, row.now)) }
-    ensures none { IfNone result (¬ (Contains (keys_of rows.now) word)) }
-{
-    let mut low = 0;
-    let mut high = rows.len();
-    while low < high {
-        let middle = low + (high - low) / 2;
-        let row = &rows[middle];
-        match row.0.cmp(&word) {
-            Ordering::Less => low = middle + 1,
-            Ordering::Equal => return Some(&row.1),
-            Ordering::Greater => high = middle,
-        }
-    }
-    None
 }

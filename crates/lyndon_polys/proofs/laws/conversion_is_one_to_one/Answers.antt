@@ -1,4 +1,4 @@
-use Rattle.std.proofs.Common.{◌<◌, arith}
+use Rattle.std.proofs.Common.{arith}
 use Rattle.sparse_rows.proofs.SameRows.{same_row}
 use Rattle.lyndon_polys.proofs.Converting.{sum_of_row, row_of_words}
 use Rattle.lyndon_polys.proofs.laws.conversion_is_one_to_one.Goals as goal

@@ -1,4 +1,4 @@
-use Rattle.std.proofs.Common.{◌<◌, ◌≤◌, length, subst, arith}
+use Rattle.std.proofs.Common.{subst, arith}
 use Rattle.zeta_model.specs.Sums.{single}
 use Rattle.word_sums.specs.Sums.{IsSumOf}
 use Rattle.lyndon_polys.proofs.ShuffleSteps.{no_factor, one_factor_more, factor_fits, all_factors}

@@ -1,7 +1,6 @@
-use Rattle.std.proofs.Common.{◌≡◌, ◌+◌, ◌*◌, ◌<◌, length, [], sym, ◌∙◌, ap, subst, arith}
+use Rattle.std.proofs.Common.{◌≡◌, ◌+◌, ◌*◌, [], sym, ◌∙◌, ap, subst, arith}
 use Rattle.std.proofs.lemmas.Option.{get_or_from_slice_get}
 use Rattle.zeta_model.specs.Modular.{Same}
-use Rattle.zeta_model.specs.Inverses.{HasInverse}
 use Rattle.lyndon_words.specs.Lyndon.{joined}
 use Rattle.table_model.specs.MonomialWords.{column_at}
 use Rattle.lyndon_polys.specs.Inner.{leading, earlier_fault}

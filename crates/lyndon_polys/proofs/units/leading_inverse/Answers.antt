@@ -1,4 +1,4 @@
-use Rattle.std.proofs.Common.{◌≡◌, ◌*◌, ◌%◌, ◌<◌, sym, ◌∙◌, ap, arith}
+use Rattle.std.proofs.Common.{◌≡◌, ◌*◌, ◌%◌, sym, ◌∙◌, ap, arith}
 use Rattle.zeta_model.proofs.ModularLemmas.{same-mod}
 use Rattle.lyndon_polys.specs.Inner.{leading}
 use Rattle.lyndon_polys.proofs.Inverting.{leading-count, inverse_found, no_inverse_found}

@@ -1,4 +1,4 @@
-use Rattle.std.proofs.Common.{◌≡◌, ◌+◌, ◌-◌, ◌*◌, ◌%◌, ◌<◌, sym, ◌∙◌, ap, arith}
+use Rattle.std.proofs.Common.{◌≡◌, ◌+◌, ◌-◌, ◌*◌, ◌%◌, ◌∙◌, ap, arith}
 use Rattle.zeta_model.specs.Sums.{single}
 use Rattle.table_model.specs.MonomialWords.{words_of_monomial}
 use Rattle.lyndon_words.specs.Lyndon.{joined}

@@ -1,4 +1,4 @@
-use Rattle.std.proofs.Common.{ℕ, ◌<◌, ◌≤◌, length, ◌∙◌, arith}
+use Rattle.std.proofs.Common.{◌∙◌, arith}
 use Rattle.table_model.specs.Conversion.{IsTable}
 use Rattle.lyndon_polys.proofs.SortedWords.{one_column_more, sorted_increase, sorted_each, sorted_whole}
 use Rattle.lyndon_polys.proofs.word_rows.sorted_words.Goals as goal

@@ -1,6 +1,4 @@
-use Rattle.std.proofs.Common.{◌≡◌, refl, ap, sym, ◌∙◌, subst}
-use Rattle.std.specs.Prelude.{All, Contains}
-use Rattle.std.specs.Map.{keys_of}
+use Rattle.std.proofs.Common.{refl, ap, ◌∙◌, subst}
 use Rattle.word_sums.specs.Terms.{coefficient_of}
 use Rattle.lyndon_polys.specs.Inner.{IsRowOf}
 use Rattle.lyndon_polys.proofs.TestedWords.{out_tells, no_out_tells, all_fit, all_known, row_of_terms}
@@ -18,10 +16,9 @@ pub row_of_sum-requires-clause-known : goal.row_of_sum-requires-clause-known
 row_of_sum-requires-clause-known g c =
     let t = c.self.inside in
     let ring = t.ring in
-    subst (λ rows. All (Contains (keys_of rows)) (keys_of c.args.s.now)) (sym c.deref.ensures.value)
-    (all_known (g.R.Ring.modulus ring) (g.R.Ring.has ring) (g.R.Ring.value ring) t.columns t.rows.items c.args.s.now c.self.invariant.2
+    all_known (g.R.Ring.modulus ring) (g.R.Ring.has ring) (g.R.Ring.value ring) t.columns t.rows c.args.s.now c.self.invariant.2
     (all_fit c.args.s.now c.weight.result c.depth.result t.columns.weight t.columns.depth c.weight.ensures.weight c.depth.ensures.depth
-    c.in_default.ensures))
+    c.in_default.ensures)
 
 -- what `row_of_sum` answers is the row of the sum
 row_is : (g : given.Over) (c : goal.After-drop-none g)
@@ -30,8 +27,8 @@ row_is : (g : given.Over) (c : goal.After-drop-none g)
 row_is g c =
     let t = c.self.inside in
     let s = c.args.s.now in
-    let row = row_of_terms (g.R.Ring.modulus t.ring) (g.R.Ring.has t.ring) (g.R.Ring.value t.ring) t.columns s c.deref-2.result.now c.in-Ok.row
-    (g.R.Ring.value t.ring c.one-one.result) (c.deref-2.ensures.value ∙ c.new-none.ensures.items)
+    let row = row_of_terms (g.R.Ring.modulus t.ring) (g.R.Ring.has t.ring) (g.R.Ring.value t.ring) t.columns s c.deref.result.now c.in-Ok.row
+    (g.R.Ring.value t.ring c.one-one.result) (c.deref.ensures.value ∙ c.new-none.ensures.items)
     (ap (g.R.Ring.value t.ring) c.one-one.ensures ∙ g.met.R.Ring.value_one t.ring) c.in-Ok.ensures.row in
     subst (λ v. IsRowOf (g.R.Ring.modulus v.ring) (g.R.Ring.has v.ring) (g.R.Ring.value v.ring) v.columns
     (coefficient_of (g.R.Ring.value v.ring) s) c.in-Ok.row) c.self.view_is row

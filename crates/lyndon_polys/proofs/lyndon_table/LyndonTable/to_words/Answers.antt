@@ -1,4 +1,4 @@
-use Rattle.std.proofs.Common.{◌<◌, [], subst, arith}
+use Rattle.std.proofs.Common.{[], subst, arith}
 use Rattle.std.proofs.lemmas.Option.{get_or_from_slice_get}
 use Rattle.word_sums.specs.Sums.{IsSumOf}
 use Rattle.table_model.specs.MonomialWords.{words_of_row}

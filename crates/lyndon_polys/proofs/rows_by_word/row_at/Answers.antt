@@ -1,6 +1,6 @@
-use Rattle.std.proofs.Common.{◌≡◌, ℕ, ◌+◌, ◌-◌, ◌/◌, ◌<◌, ◌≤◌, length, sym, ◌∙◌, arith}
+use Rattle.std.proofs.Common.{ℕ, ◌+◌, ◌-◌, ◌/◌, ◌<◌, length, sym, ◌∙◌, arith}
 use Rattle.lyndon_polys.proofs.Halving.{above_middle, below_middle, at_middle, none_between}
-use Rattle.lyndon_polys.proofs.word_rows.row_at.Goals as goal
+use Rattle.lyndon_polys.proofs.rows_by_word.row_at.Goals as goal
 
 pub loop-low-preserved-in-Less : goal.loop-low-preserved-in-Less
 loop-low-preserved-in-Less g c =

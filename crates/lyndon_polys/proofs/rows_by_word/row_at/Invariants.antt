@@ -1,6 +1,6 @@
 use Rattle.std.proofs.Common.{◌-◌, ◌≤◌, length}
 use Rattle.lyndon_polys.proofs.Halving.{Between}
-use Rattle.lyndon_polys.proofs.word_rows.row_at.Given as goal
+use Rattle.lyndon_polys.proofs.rows_by_word.row_at.Given as goal
 
 abbrev pub invariant-loop-low : goal.invariant-loop-low
 invariant-loop-low g l = record {
