@@ -1,7 +1,2 @@
-mod SumLemmas
-mod Adding
-mod GatheredRows
-pub mod FormSums
-mod PlacedWords
-mod WordForms
+pub mod FormReplies
 mod TextSteps

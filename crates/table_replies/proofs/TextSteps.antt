@@ -14,8 +14,8 @@ use Rattle.poly_print.proofs.TextLaws.{rows-residues}
 use Rattle.lyndon_polys.specs.Tables.{entries_of}
 use Rattle.table_rewrite.specs.Replies.{AreReplies}
 use Rattle.table_replies.specs.Forms.{answer_by, reply_by}
-use Rattle.table_replies.specs.Inner.{IsFormOf, AreForms}
-use Rattle.table_replies.proofs.FormSums.{replies_by_forms}
+use Rattle.word_forms.specs.Forms.{IsFormOf, AreForms}
+use Rattle.table_replies.proofs.FormReplies.{replies_by_forms}
 
 -- the meaning that a line has is answered
 pub answered_line : (m : ℕ) (columns : ColumnList) (forms : ℕ → ℕ → ℕ) (line : List ℕ) (a : LineMeaning)

@@ -8,17 +8,15 @@ ghost use Rattle.table_rewrite.specs.Replies.{AreOver, AreReplies, fault_text};
 ghost use Rattle.table_rewrite.specs.Inner.{IsNoMemory};
 ghost use Rattle.table_replies.specs.Forms.{reply_by};
 
-use crate::forms::forms_of_words;
-use crate::placing::form_of_sum;
 use echelon::ReducedRows;
 use line_loop::Replier;
 use lyndon_polys::LyndonTable;
 use poly_print::print;
 use residues::Ring;
-use sparse_rows::Row;
 use std::alloc::{AllocError, Global};
 use std::marker::Model;
 use table_rewrite::{Reply, reply_text, sum_of_line};
+use word_forms::WordForms;
 use word_sums::WordSum;
 use zeta_expr::LineFault;
 
@@ -27,19 +25,18 @@ use zeta_expr::LineFault;
 pub struct TableReplies<R: Ring> {
     alloc: Global,
     table: LyndonTable<R>,
-    forms: Vec<Row<R>>,
+    forms: WordForms<R>,
 }
 
 impl<R: Ring> Model for TableReplies<R> {
-    ghost use Rattle.std.specs.Prelude.{length};
+    ghost use Rattle.std.specs.Prelude.{◌≡◌, length};
     ghost use Rattle.table_replies.specs.Forms.{WordForms};
-    ghost use Rattle.table_replies.specs.Inner.{FitForms};
 
     ghost Value = { WordForms R R.Elem };
 
-    ghost view = { λ r. record { ring = r.table.ring; columns = r.table.columns; forms = r.forms.items } };
+    ghost view = { λ r. record { ring = r.table.ring; columns = r.table.columns; forms = r.forms.forms } };
 
-    ghost invariant = { λ r. FitForms (R.has r.table.ring) (length r.table.columns.list) r.forms.items };
+    ghost invariant = { λ r. (r.forms.ring ≡ r.table.ring) × (length r.forms.forms ≡ length r.table.columns.list) };
 }
 
 /// The text of a refusal, where it is not want of memory.
@@ -67,7 +64,7 @@ impl<R: Ring> TableReplies<R> {
         ensures replies { IfOk result (λ replies. AreReplies (R.modulus table.ring) table.columns (length rows.now.rows) (lead_at rows.now.rows)
             (row_at (R.value table.ring) rows.now.rows) (⟦<TableReplies<R> as Replier>⟧.reply_to replies)) }
     {
-        let forms = forms_of_words(alloc, &table, rows)?;
+        let forms = WordForms::new(alloc, &table, rows)?;
         Ok(TableReplies {
             alloc,
             table,
@@ -81,10 +78,9 @@ impl<R: Ring> TableReplies<R> {
         ensures { IfOk result (λ text. string_bytes text ≡ residues_text self.now.columns.list (λ col. cols_by self.now.columns.list
             (row_at (R.value self.now.ring) self.now.forms) (coefficient_of (R.value self.now.ring) sum.now) col % R.modulus self.now.ring)) }
     {
-        let ring = self.table.ring();
         let columns = self.table.columns();
-        let form = form_of_sum(self.alloc, ring, columns, &self.forms, sum)?;
-        print(self.alloc, ring, columns, &form)
+        let form = self.forms.row_of_sum(columns, sum)?;
+        print(self.alloc, self.table.ring(), columns, &form)
     }
 
     /// The text of the reply to a line.

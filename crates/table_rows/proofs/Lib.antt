@@ -1,3 +1,4 @@
 mod OfferedValues
 mod NamedValues
 mod Answering
+mod KnownValues

@@ -1,5 +1,5 @@
 -- The names of the listing: they are names of the table's weight, their values have words of the table alone, and they are not many.
-use Rattle.std.specs.Prelude.{◌≡◌, ℕ, ◌%◌, ◌<◌, ◌≤◌, Some, List, length, slice_get, All, Contains, ◌&&◌, nat_eq, nat_le, true, false, not, Bool, get_or}
+use Rattle.std.specs.Prelude.{◌≡◌, ℕ, ◌%◌, ◌<◌, ◌≤◌, Some, List, length, slice_get, All, Contains, ◌&&◌, true, false, not, Bool, get_or}
 use Rattle.std.proofs.Common.{refl, sym, ◌∙◌, ap, subst, arith}
 use Rattle.std.specs.Map.{keys_of}
 use Rattle.std.proofs.lemmas.Option.{slice_get_within, get_or_from_slice_get, slice_get-get_or}
@@ -7,7 +7,7 @@ use Rattle.std.proofs.lemmas.Bool.{eq-eqb, le-leb}
 use Rattle.std.proofs.lemmas.List.Elements.{All-contains}
 use Rattle.zeta_model.specs.declared.Letter.{Letter}
 use Rattle.zeta_model.specs.Sums.{Sum}
-use Rattle.zeta_model.specs.Words.{depth_of, is_admissible}
+use Rattle.zeta_model.specs.Words.{depth_of}
 use Rattle.zeta_model.proofs.ListLemmas.{from-filter}
 use Rattle.zeta_model.proofs.ModularLemmas.{same-mod}
 use Rattle.zeta_model.proofs.WordListLaws.{length-admissible_within}
@@ -20,7 +20,7 @@ use Rattle.relation_list.specs.Values.{value_of, IsWordOf}
 use Rattle.relation_list.proofs.WholeListing.{listing_of-whole}
 use Rattle.relation_list.proofs.ListingLengths.{listing-small}
 use Rattle.lyndon_polys.specs.Tables.{is_table_word}
-use Rattle.table_model.specs.Conversion.{IsCols}
+use Rattle.table_model.specs.Conversion.{IsTableWord, IsCols}
 use Rattle.table_model.specs.ListedSpan.{value_where, listed_value, relation_count, count_of}
 
 pub listed : (w d n : ℕ) (name : RelName) → w ≤ 24 → slice_get (listing_of w d) n ≡ Some name
@@ -46,20 +46,22 @@ few_names w d least most few = listing-small w d most (omega (arith, length-admi
 pub same_cols : (m : ℕ) (columns : ColumnList) (s u : Sum) (p : ℕ → ℕ) → ((t : List Letter) → s t ≡ u t % m) → IsCols m columns s p → IsCols m columns u p
 same_cols m columns s u p same is = record { over = is.over; words = λ t. is.words t ∙ ap (λ x. x % m) (same t) ∙ same-mod m (u t) }
 
-both_true : (a b : Bool) → a ≡ true → b ≡ true → a && b ≡ true
-both_true true b e f = f
-both_true false b e f = cc
+table_word_passes : (w d : ℕ) (t : List Letter) → IsTableWord w d t → is_table_word w d t ≡ true
+table_word_passes w d t k = λ i. k.admissible i && (eq-eqb (length t) w k.weight i && le-leb (depth_of t) d k.depth i)
 
--- no word of the value fails the test
-pub none_fails : {E : Type 0} (w d : ℕ) (name : RelName) (terms : List (List Letter × E)) → All (IsWordOf name) (keys_of terms)
-    → weight_of_name name ≡ w → depth_of_name name ≤ d → (u : List Letter) → IsLeast (failing (is_table_word w d) terms) u → ⊥
-none_fails w d name terms words weight depth u least =
+-- the words of a value of the table's weight and depth are words of the table
+pub table_words : (w d : ℕ) (name : RelName) (words : List (List Letter)) → weight_of_name name ≡ w → depth_of_name name ≤ d → All (IsWordOf name) words
+    → All (IsTableWord w d) words
+table_words w d name words weight depth all i default l =
+    let word : IsWordOf name (get_or words i default) = all i default l in
+    record { admissible = word.admissible; weight = word.weight ∙ weight; depth = omega (arith, word.depth, depth) }
+
+-- no word of the table fails the test
+pub none_fails : {E : Type 0} (w d : ℕ) (terms : List (List Letter × E)) → All (IsTableWord w d) (keys_of terms) → (u : List Letter)
+    → IsLeast (failing (is_table_word w d) terms) u → ⊥
+none_fails w d terms words u least =
     let found : Contains (keys_of terms) u × (not (is_table_word w d u) ≡ true) = from-filter (λ t. not (is_table_word w d t)) (keys_of terms) u least.stands in
-    let word : IsWordOf name u = All-contains (IsWordOf name) (keys_of terms) u words found.0 in
-    let passes : is_table_word w d u ≡ true =
-    both_true (is_admissible u) (nat_eq (length u) w && nat_le (depth_of u) d) word.admissible
-    (both_true (nat_eq (length u) w) (nat_le (depth_of u) d) (eq-eqb (length u) w (word.weight ∙ weight)) (le-leb (depth_of u) d (omega (arith, word.depth, depth)))) in
-    refuse (is_table_word w d u) passes found.1
+    refuse (is_table_word w d u) (table_word_passes w d u (All-contains (IsTableWord w d) (keys_of terms) u words found.0)) found.1
   where
     refuse : (b : Bool) → b ≡ true → not b ≡ true → ⊥
     refuse true e f = cc

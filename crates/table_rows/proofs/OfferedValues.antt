@@ -6,7 +6,8 @@ use Rattle.linear_model.specs.Rows.{SameRow, InSpan, SpanWithin, SameSpan, rows_
 use Rattle.linear_model.specs.Reduced.{IsNormalForm}
 use Rattle.linear_model.proofs.Spans.{row_in_span, span_through}
 use Rattle.linear_model.proofs.RowSpans.{same_in_row_span}
-use Rattle.linear_model.proofs.SpanSteps.{rows_and-last, rows_and-before}
+use Rattle.linear_model.proofs.SpanSteps.{rows_and-last, rows_and-before, same_span_none}
+use Rattle.linear_model.proofs.ForwardLists.{in_span_iff}
 use Rattle.linear_model.proofs.Sweeps.{normal_form_exists}
 use Rattle.column_order.specs.Columns.{ColumnList}
 use Rattle.echelon.specs.Lists.{row_at, lead_at, AreForward, AreReduced}
@@ -94,6 +95,10 @@ module _ {E : Type 0} (m : ℕ) (value : E → ℕ) (columns : ColumnList) (tabl
               (others i) (base.1 i (omega arith))
         ]
 
+    -- those kept have it already, where the row of the value is one of their span
+    pub span_same : InSpan m (length kept) (row_at value kept) p → SpanFirst m value columns (n + 1) kept
+    span_same lies = span_next kept (same_span_none m (length kept) (row_at value kept) p lies)
+
     module _ (forward : AreForward m value kept) (whole : IsUnbroken m columns (values_of m columns) n) where
       one : 1 % m ≡ 1
       one = mod-eq_of_lt (omega (arith, table.modulus))
@@ -144,3 +149,10 @@ module _ {E : Type 0} (m : ℕ) (value : E → ℕ) (columns : ColumnList) (tabl
         | inr late ↦ let e : k ≡ n = omega arith in
             fits residue (fails residue (subst (λ x. IsBrokenAt m columns (values_of m columns) x residue) e b))
       ]
+
+      -- a row of the span leads with nothing
+      pub unbroken_same : InSpan m (length kept) (row_at value kept) p → IsUnbroken m columns (values_of m columns) (n + 1)
+      unbroken_same lies = unbroken_next (λ lead h.
+          let leads = h.leads in
+          leads.here ((in_span_iff m (length kept) (lead_at kept) (row_at value kept) (omega (arith, table.modulus)) forward p h.remainder h.is_remainder).0 lies
+          h.column))

@@ -1,13 +1,18 @@
 -- What single steps of the code keep. No public clause cites this, so a reader need not believe it.
-use Rattle.std.specs.Prelude.{◌≡◌, ℕ, ◌<◌, ◌≤◌, List, length}
-use Rattle.linear_model.specs.Rows.{SameSpan}
+use Rattle.std.specs.Prelude.{◌≡◌, ℕ, ◌%◌, ◌<◌, ◌≤◌, Bool, List, length, Option, IfSome, All}
+use Rattle.std.specs.Map.{keys_of}
+use Rattle.zeta_model.specs.declared.Letter.{Letter}
+use Rattle.zeta_model.specs.Sums.{Sum}
+use Rattle.linear_model.specs.Rows.{SameSpan, SpanWithin}
+use Rattle.word_sums.specs.Terms.{coefficient_of, AllIn as AllTermsIn}
 use Rattle.column_order.specs.Columns.{ColumnList}
 use Rattle.echelon.specs.Lists.{row_at, AreForward}
 use Rattle.echelon.specs.States.{Elimination}
 use Rattle.lyndon_polys.specs.Tables.{RingTable}
-use Rattle.table_model.specs.Conversion.{IsTable, Converts, IsCols}
+use Rattle.table_model.specs.Conversion.{IsTable, IsTableWord, Converts, IsCols}
 use Rattle.table_model.specs.ListedSpan.{values_of}
 use Rattle.table_model.specs.ReducedRows.{IsUnbroken}
+use Rattle.word_forms.specs.Forms.{RingForms, AreForms}
 
 -- the rows kept have the span of the rows of the first n values, whichever rows these have
 abbrev pub SpanFirst : {E : Type 0} → ℕ → (E → ℕ) → ColumnList → ℕ → List (List (ℕ × E)) → Type 0
@@ -24,3 +29,26 @@ pub record HasOffered {R E : Type 0} (m : ℕ) (value : E → ℕ) (table : Ring
   pub forward : AreForward m value e.rows
   pub span : SpanFirst m value table.columns n e.rows
   pub unbroken : IsUnbroken m table.columns (values_of m table.columns) n
+
+-- the sum of words is s, and has words of the table alone
+pub record IsValue {E : Type 0} (m : ℕ) (has : E → Bool) (value : E → ℕ) (columns : ColumnList) (s : Sum) (sum : List (List Letter × E)) : Type 0 where
+  pub in_ring : AllTermsIn has sum
+  pub words : All (IsTableWord columns.weight columns.depth) (keys_of sum)
+  pub coefficients : (t : List Letter) → coefficient_of value sum t ≡ s t % m
+
+module _ {R E : Type 0} (m : ℕ) (has : E → Bool) (value : E → ℕ) (table : RingTable R) where
+  -- the forms are the polynomials of the words of the table by rows in the span of those kept
+  pub record HasForms (kept : List (List (ℕ × E))) (f : RingForms R E) : Type 0 where
+    pub ring : f.ring ≡ table.ring
+    pub rows : List (List (ℕ × E))
+    pub forms : AreForms m has value table.columns rows f.forms
+    pub within : SpanWithin m (length rows) (row_at value rows) (length kept) (row_at value kept)
+
+  -- so they are, where there are any
+  abbrev pub AreKnown : List (List (ℕ × E)) → Option (RingForms R E) → Type 0
+  AreKnown kept forms = IfSome forms (HasForms kept)
+
+  -- the first n values were taken in, and the forms are by the rows kept
+  pub record HasTaken (n : ℕ) (e : Elimination R E) (forms : Option (RingForms R E)) : Type 0 where
+    pub offered : HasOffered m value table n e
+    pub known : AreKnown e.rows forms

@@ -1,24 +1,23 @@
-//! The rows of the listed relations, offered one after the other.
+//! The rows of the listed relations, by their values one after the other.
 ghost use Rattle.std.specs.Prelude.{◌≡◌, ℕ, ◌+◌, ◌<◌, ◌≤◌, IsTrue, IfOk, OnOk, IsErrOf, Some, length, slice_get};
-ghost use Rattle.sparse_rows.specs.Entries.{AllIn, IsBelow};
 ghost use Rattle.relation_list.specs.Names.{is_name_of, weight_of_name, depth_of_name};
 ghost use Rattle.relation_list.specs.Listings.{listing_of};
 ghost use Rattle.relation_list.specs.Values.{value_of};
-ghost use Rattle.echelon.specs.Lists.{entries_of, lead_at, row_at};
+ghost use Rattle.echelon.specs.Lists.{lead_at, row_at};
 ghost use Rattle.echelon.specs.States.{IsRowList};
-ghost use Rattle.table_model.specs.Conversion.{IsCols};
 ghost use Rattle.table_model.specs.ListedSpan.{values_of, count_of};
 ghost use Rattle.table_model.specs.ReducedRows.{IsReducedRows, IsUnbroken, BreaksFirst};
-ghost use Rattle.table_rows.specs.Inner.{HasOffered};
+ghost use Rattle.table_rows.specs.Inner.{HasTaken, IsValue};
 
 use crate::fault::RowsFault;
-use echelon::{OfferFault, ReducedRows, RowEchelon};
+use crate::offers::{Offers, take_sum};
+use echelon::ReducedRows;
 use kept_products::{KeptProducts, value_kept};
-use lyndon_polys::{LyndonTable, OutFault};
+use lyndon_polys::LyndonTable;
 use relation_list::{RelName, listing};
 use residues::Ring;
-use sparse_rows::Row;
 use std::alloc::{AllocError, Global};
+use word_sums::WordSum;
 
 /// The reduced rows of all listed relations of the table's weight and depth, over its columns and its ring.
 ///
@@ -43,65 +42,55 @@ pub fn reduced_rows<R: Ring>(
         Err(fault) => return Err(RowsFault::Memory(fault)),
     };
     let mut kept = KeptProducts::new(alloc, *table.ring());
-    let mut echelon = RowEchelon::new(alloc, *table.ring(), columns.len());
+    let mut offers = Offers::new(alloc, *table.ring(), columns.len());
     for (n, name) in names.iter().enumerate() {
-        if let Err(fault) = offer_value(&mut echelon, table, &mut kept, n as u32, name) {
+        if let Err(fault) = take_value(&mut offers, table, &mut kept, n as u32, name) {
             return Err(fault);
         }
     }
-    match echelon.reduced() {
+    match offers.echelon.reduced() {
         Ok(rows) => Ok(rows),
         Err(fault) => Err(RowsFault::Memory(fault)),
     }
 }
 
-/// Offers the row of the value of relation `n`, whose name it is. Its products are kept for later values.
-fn offer_value<R: Ring>(
-    echelon: &mut RowEchelon<R>,
+/// Takes in the value of relation `n`, whose name it is. Its products are kept for later values.
+fn take_value<R: Ring>(
+    offers: &mut Offers<R>,
     table: &LyndonTable<R>,
     kept: &mut KeptProducts<R>,
     n: u32,
     name: &RelName,
 ) -> Result<(), RowsFault>
     requires kept_ring { kept.old.ring ≡ table.now.ring }
-    requires so_far { HasOffered (R.modulus table.now.ring) (R.value table.now.ring) table.now n echelon.old }
+    requires so_far { HasTaken (R.modulus table.now.ring) (R.has table.now.ring) (R.value table.now.ring) table.now n offers.old.echelon offers.old.forms }
     requires named { slice_get (listing_of table.now.columns.weight table.now.columns.depth) n ≡ Some name.now }
     ensures keeps_ring { kept.new.ring ≡ kept.old.ring }
-    ensures ok { OnOk result (HasOffered (R.modulus table.now.ring) (R.value table.now.ring) table.now (n + 1) echelon.new) }
+    ensures ok { OnOk result (HasTaken (R.modulus table.now.ring) (R.has table.now.ring) (R.value table.now.ring) table.now (n + 1) offers.new.echelon
+        offers.new.forms) }
     ensures no_inverse { (lead k : ℕ) → IsErrOf result (RowsFault.NoInverse lead k)
         → (k ≡ n) × BreaksFirst (R.modulus table.now.ring) table.now.columns (values_of (R.modulus table.now.ring) table.now.columns) n lead }
 {
-    let row = match value_row(table, kept, name) {
-        Ok(row) => row,
-        Err(fault) => return Err(RowsFault::Memory(fault)),
-    };
-    match echelon.offer(n, &row) {
-        Ok(_) => Ok(()),
-        Err(OfferFault::NoInverse { value, n }) => Err(RowsFault::NoInverse { value, n }),
-        Err(OfferFault::Memory(fault)) => Err(RowsFault::Memory(fault)),
+    match value_sum(table, kept, name) {
+        Ok(sum) => take_sum(offers, table, n, &sum),
+        Err(fault) => Err(RowsFault::Memory(fault)),
     }
 }
 
-/// The row of the value of a name of the table's weight and depth.
-fn value_row<R: Ring>(
+/// The value of a name of the table's weight and depth.
+fn value_sum<R: Ring>(
     table: &LyndonTable<R>,
     kept: &mut KeptProducts<R>,
     name: &RelName,
-) -> Result<Row<R>, AllocError>
+) -> Result<WordSum<R>, AllocError>
     requires kept_ring { kept.old.ring ≡ table.now.ring }
     requires is_name { IsTrue (is_name_of name.now) }
     requires weight { weight_of_name name.now ≡ table.now.columns.weight }
     requires depth { depth_of_name name.now ≤ table.now.columns.depth }
     ensures keeps_ring { kept.new.ring ≡ kept.old.ring }
-    ensures cols { IfOk result (λ row. IsCols (R.modulus table.now.ring) table.now.columns (value_of (R.modulus table.now.ring) name.now)
-        (entries_of (R.value table.now.ring) row)) }
-    ensures below { IfOk result (IsBelow (λ k. k) (length table.now.columns.list)) }
-    ensures in_ring { IfOk result (AllIn (R.has table.now.ring)) }
+    ensures value { IfOk result (IsValue (R.modulus table.now.ring) (R.has table.now.ring) (R.value table.now.ring) table.now.columns
+        (value_of (R.modulus table.now.ring) name.now)) }
 {
     let sum = value_kept(kept, name)?;
-    match table.to_columns(&sum) {
-        Ok(row) => Ok(row),
-        Err(OutFault::OutOfTable(_)) => unreachable!(),
-        Err(OutFault::Memory(fault)) => Err(fault),
-    }
+    Ok(sum)
 }

@@ -22,8 +22,8 @@ overflow_cast-n g c =
     let small : length names ≤ 1179648 = subst (λ xs. length xs ≤ 1179648) (sym is) few in
     omega (arith, small, c.loop-n-test.true)
 
-pub offer_value-requires-clause-named : goal.offer_value-requires-clause-named
-offer_value-requires-clause-named g c =
+pub take_value-requires-clause-named : goal.take_value-requires-clause-named
+take_value-requires-clause-named g c =
     let columns = c.args.table.now.columns in
     let names = c.deref-name-items.result.now in
     let is : names ≡ listing_of columns.weight columns.depth =
@@ -31,14 +31,14 @@ offer_value-requires-clause-named g c =
     c.weight.ensures.weight c.depth.ensures.depth c.columns-columns.ensures.columns in
     item_named names columns.weight columns.depth c.loop-n.n c.name-item.result is c.loop-n-test.true c.name-item.is
 
-pub returns-in-Err-offer_value-clause-no_inverse : goal.returns-in-Err-offer_value-clause-no_inverse
-returns-in-Err-offer_value-clause-no_inverse g c = λ lead n e.
+pub returns-in-Err-take_value-clause-no_inverse : goal.returns-in-Err-take_value-clause-no_inverse
+returns-in-Err-take_value-clause-no_inverse g c = λ lead n e.
     let columns = c.args.table.now.columns in
     let names = c.deref-name-items.result.now in
     let is : names ≡ listing_of columns.weight columns.depth =
     items_are names c.in-Ok.names.items c.weight.result c.depth.result c.columns-columns.result.now columns c.deref-name-items.ensures.value c.in-Ok.ensures
     c.weight.ensures.weight c.depth.ensures.depth c.columns-columns.ensures.columns in
-    let told = c.in-Err-offer_value.ensures.no_inverse lead n (same_told _ _ e) in
+    let told = c.in-Err-take_value.ensures.no_inverse lead n (same_told _ _ e) in
     let m = g.R.Ring.modulus c.args.table.now.ring in (
       omega (arith, told.0, count_is names columns is, c.loop-n-test.true),
       subst (λ k. BreaksFirst m columns (values_of m columns) k lead) (sym told.0) told.1,
@@ -55,8 +55,8 @@ returns-in-Ok-reduced-clause-ok g c =
     items_are names c.in-Ok.names.items c.weight.result c.depth.result c.columns-columns.result.now columns c.deref-name-items.ensures.value c.in-Ok.ensures
     c.weight.ensures.weight c.depth.ensures.depth c.columns-columns.ensures.columns in
     let all : c.loop-n.n ≡ count_of columns = omega (arith, count_is names columns is, c.loop-n.auto.n-end, c.loop-n-test.false) in
-    let so_far = c.loop-n.invariant.offered in
-    let kept = c.loop-n.echelon.rows in
+    let so_far = c.loop-n.invariant.taken.offered in
+    let kept = c.loop-n.offers.echelon.rows in
     let list = c.in-Ok-reduced.rows.rows in
     let told = c.in-Ok-reduced.ensures in
     let reduced : AreReduced m value list =
@@ -76,4 +76,4 @@ returns-in-Ok-reduced-clause-fits g c =
     items_are names c.in-Ok.names.items c.weight.result c.depth.result c.columns-columns.result.now columns c.deref-name-items.ensures.value c.in-Ok.ensures
     c.weight.ensures.weight c.depth.ensures.depth c.columns-columns.ensures.columns in
     let all : c.loop-n.n ≡ count_of columns = omega (arith, count_is names columns is, c.loop-n.auto.n-end, c.loop-n-test.false) in
-    subst (IsUnbroken m columns (values_of m columns)) all c.loop-n.invariant.offered.unbroken
+    subst (IsUnbroken m columns (values_of m columns)) all c.loop-n.invariant.taken.offered.unbroken

@@ -1,9 +1,9 @@
 use Rattle.std.proofs.Common.{◌≡◌}
-use Rattle.table_rows.specs.Inner.{HasOffered}
+use Rattle.table_rows.specs.Inner.{HasTaken}
 use Rattle.table_rows.proofs.making.reduced_rows.Given as goal
 
 abbrev pub invariant-loop-n : goal.invariant-loop-n
 invariant-loop-n g l = record {
-  offered : HasOffered (g.R.Ring.modulus l.table.ring) (g.R.Ring.value l.table.ring) l.table l.n l.echelon;
+  taken : HasTaken (g.R.Ring.modulus l.table.ring) (g.R.Ring.has l.table.ring) (g.R.Ring.value l.table.ring) l.table l.n l.offers.echelon l.offers.forms;
   kept_ring : l.kept.ring ≡ l.table.ring;
 }

@@ -6,5 +6,5 @@ returns g c =
     let ring = c.args.table.ring in
     record {
       replies = forms_reply g.R.Ring.zero (g.R.Ring.has ring) (g.R.Ring.value ring) (g.R.Ring.modulus ring) c.args.table.columns c.args.rows.now.rows
-          c.in_ok-forms.forms.items c.forms_of_words.ensures.table c.in_ok-forms.ensures.forms;
+          c.in_ok-forms.forms.forms c.in_ok-forms.ensures.table c.in_ok-forms.ensures.forms;
     }

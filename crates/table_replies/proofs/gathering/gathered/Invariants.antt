@@ -1,8 +1,0 @@
-use Rattle.table_replies.specs.Inner.{numbers_of}
-use Rattle.table_replies.proofs.GatheredRows.{Gathering}
-use Rattle.table_replies.proofs.gathering.gathered.Given as goal
-
-abbrev pub invariant-loop-column : goal.invariant-loop-column
-invariant-loop-column g l =
-    Gathering (g.R.Ring.modulus l.ring) (g.R.Ring.has l.ring) (g.R.Ring.value l.ring) g.R.Ring.zero
-    (numbers_of (g.R.Ring.total l.ring) l.sums) l.column l.row

@@ -1,0 +1,41 @@
+use Rattle.std.proofs.Common.{◌≡◌, ℕ, ◌+◌, Some, List, [], ◌∷◌, length, refl, sym, ◌∙◌, subst, arith}
+use Rattle.std.proofs.lemmas.Bool.{eqb-true}
+use Rattle.word_sums.specs.Terms.{coefficient_of}
+use Rattle.column_order.specs.Columns.{ColumnList}
+use Rattle.echelon.specs.Lists.{entries_of, lead_at, row_at}
+use Rattle.table_model.specs.Conversion.{IsTable, IsTableSum}
+use Rattle.table_model.specs.Complete.{IsPolynomial}
+use Rattle.word_forms.specs.Forms.{AreForms}
+use Rattle.table_rows.specs.Inner.{HasForms, HasTaken}
+use Rattle.table_rows.proofs.KnownValues.{taken_in}
+use Rattle.table_rows.proofs.offers.is_known.Goals as goal
+
+no_items : {A : Type 0} (xs : List A) → length xs ≡ 0 → xs ≡ []
+no_items [] e = refl
+no_items (x ∷ xs) e = absurd (omega arith)
+
+pub returns : goal.returns
+returns g c = record {
+  known = λ nothing n e so_far is.
+      let t = c.args.table.now in
+      let m = g.R.Ring.modulus t.ring in
+      let has = g.R.Ring.has t.ring in
+      let value = g.R.Ring.value t.ring in
+      let f = c.in-Some.forms in
+      let left = c.in_ok-left.left in
+      let sum = c.args.sum.now in
+      let here : HasTaken m has value t n e (Some f) = subst (HasTaken m has value t n e) c.in-Some.is so_far in
+      let known : HasForms m has value t e.rows f = here.known in
+      let none : left ≡ [] =
+      sym c.entries.ensures.entries
+      ∙ no_items c.entries.result.now (eqb-true (length c.entries.result.now) 0 (sym c.is_empty.ensures ∙ nothing)) in
+      let Says = λ (u : g.row.R.Denot) (cs : ColumnList).
+      (rows : List (List (ℕ × g.row.R-Elem.Denot))) → IsTable (g.R.Ring.modulus u) cs
+      → AreForms (g.R.Ring.modulus u) (g.R.Ring.has u) (g.R.Ring.value u) cs rows f.forms
+      → IsTableSum (g.R.Ring.modulus u) cs (coefficient_of (g.R.Ring.value u) sum)
+      → IsPolynomial (g.R.Ring.modulus u) cs (length rows) (lead_at rows) (row_at (g.R.Ring.value u) rows) (coefficient_of (g.R.Ring.value u) sum)
+      (entries_of (g.R.Ring.value u) left) in
+      let told : Says t.ring t.columns =
+      subst (λ cs. Says t.ring cs) c.columns.ensures.columns (subst (λ u. Says u c.columns.result.now) known.ring c.in_ok-left.ensures.polynomial) in
+      subst (HasTaken m has value t (n + 1) e) (sym c.in-Some.is) (taken_in m has value t n e f here sum is left none told);
+}
