@@ -1,0 +1,3 @@
+mod Making
+pub mod Writing
+pub mod PagePairs
