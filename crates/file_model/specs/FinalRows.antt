@@ -1,0 +1,54 @@
+-- The rows of the final pages, and files that are complete.
+use Rattle.std.specs.Prelude.{◌≡◌, ℕ, List, [], ◌∷◌, ◌++◌, length, get_or, Some}
+use Rattle.column_order.specs.Columns.{ColumnList}
+use Rattle.page_codec.specs.declared.params.Params.{Params}
+use Rattle.page_codec.specs.declared.parts.FinalEntry.{FinalEntry}
+use Rattle.page_codec.specs.declared.page.Page.{Page}
+use Rattle.page_codec.specs.declared.page.Page.TheVariants.{Header, Forward, Final, Done}
+use Rattle.page_codec.specs.Places.{AllFit}
+use Rattle.page_file.specs.Files.{ReadsAs}
+use Rattle.page_file.specs.Notes.{params_of}
+use Rattle.table_model.specs.ListedSpan.{relation_count}
+use Rattle.table_model.specs.Complete.{IsComplete}
+use Rattle.file_model.specs.TableOf.{IsTableOf}
+use Rattle.file_model.specs.Pages.{pairs_of}
+
+abbrev pub finals_of_page : Page → List FinalEntry
+finals_of_page (Header params) = []
+finals_of_page (Forward page) = []
+finals_of_page (Final page) = page.entries
+finals_of_page (Done rows) = []
+
+-- the entries of all final pages, in order
+abbrev pub finals_of : List Page → List FinalEntry
+finals_of [] = []
+finals_of (page ∷ pages) = finals_of_page page ++ finals_of pages
+
+abbrev pub no_entry : FinalEntry
+no_entry = record { row = []; combination = [] }
+
+-- row i of the final pages, zero past the last
+abbrev pub final_row : List Page → ℕ → ℕ → ℕ
+final_row pages i = pairs_of ((get_or (finals_of pages) i no_entry).row)
+
+abbrev pub final_combination : List Page → ℕ → ℕ → ℕ
+final_combination pages i = pairs_of ((get_or (finals_of pages) i no_entry).combination)
+
+-- the final rows of the pages are complete for the parameters
+pub record AreComplete (params : Params) (pages : List Page) : Type 0 where
+  pub columns : ColumnList
+  pub are_columns : IsTableOf params columns
+  pub lead : ℕ → ℕ
+  pub complete : IsComplete params.modulus columns (length (finals_of pages)) lead (final_row pages) (final_combination pages)
+
+-- the first page is a header, each page fits its place, the last one closes the file, and the final rows are complete
+pub record IsWholeFile (bytes : List ℕ) : Type 0 where
+  pub pages : List Page
+  pub reads : ReadsAs pages bytes
+  pub params : Params
+  pub header : params_of pages ≡ Some params
+  pub fit : AllFit params (relation_count params.weight params.depth) pages
+  pub rows : ℕ
+  pub front : List Page
+  pub closed : pages ≡ front ++ Done rows ∷ []
+  pub complete : AreComplete params pages
