@@ -1,0 +1,4 @@
+pub mod WordTotals
+pub mod NamedProducts
+pub mod ProductColumns
+pub mod ProductRows
