@@ -75,11 +75,11 @@ unfolding counted
 powers-depth [] = refl
 powers-depth (p ∷ ps) = sum_by-cons written.depth_in (power_factor p) (map power_factor ps) ∙ (λ i. p.1 * length-index 1 p.0 i + powers-depth ps i)
 
-powers-bottoms : (ps : List (Word × ℕ)) → filter_map bottom_in (map power_factor ps) ≡ []
+pub powers-bottoms : (ps : List (Word × ℕ)) → filter_map bottom_in (map power_factor ps) ≡ []
 powers-bottoms [] = refl
 powers-bottoms (p ∷ ps) = powers-bottoms ps
 
-other-none : (b : Bool) (k w : ℕ) → k ≡ w → (if b then (if k == w then None else Some k) else None) ≡ None
+pub other-none : (b : Bool) (k w : ℕ) → k ≡ w → (if b then (if k == w then None else Some k) else None) ≡ None
 other-none true k w e = ap (λ c. if c then None else Some k) (eq-eqb k w e)
 other-none false k w e = refl
 
@@ -87,7 +87,7 @@ less-none : (c : Bool) (k d : ℕ) → nat_lt d k ≡ c → k ≤ d → (if c th
 less-none true k d e h = let l : d < k = ltb-true d k e in absurd (omega arith)
 less-none false k d e h = refl
 
-greater-none : (b : Bool) (k d : ℕ) → k ≤ d → (if b then (if nat_lt d k then Some k else None) else None) ≡ None
+pub greater-none : (b : Bool) (k d : ℕ) → k ≤ d → (if b then (if nat_lt d k then Some k else None) else None) ≡ None
 greater-none true k d h = less-none (nat_lt d k) k d refl h
 greater-none false k d h = refl
 
@@ -98,7 +98,7 @@ pub record IsPassed (w d : ℕ) (p : List Word) : Type 0 where
   pub deep : depth_of (joined p) ≤ d
 
 module _ (m w d : ℕ) (columns : List (List Word)) (passed : (col : ℕ) → col < length columns → IsPassed w d (get_or columns col [])) where
-  term-weight : (e : ℕ × ℕ) → e.0 < length columns → written.weight_of (term_form columns e) ≡ w
+  pub term-weight : (e : ℕ × ℕ) → e.0 < length columns → written.weight_of (term_form columns e) ≡ w
   term-weight e h =
       let p = get_or columns e.0 [] in
       let c = passed e.0 h in
@@ -106,7 +106,7 @@ module _ (m w d : ℕ) (columns : List (List Word)) (passed : (col : ℕ) → co
       ∙ (λ i. 0 + powers-weight (powers_of p) c.words i)
       ∙ omega (arith, counted-all length p, all-lengths p, c.weighs)
 
-  term-depth : (e : ℕ × ℕ) → e.0 < length columns → written.depth_of (term_form columns e) ≤ d
+  pub term-depth : (e : ℕ × ℕ) → e.0 < length columns → written.depth_of (term_form columns e) ≤ d
   term-depth e h =
       let p = get_or columns e.0 [] in
       let c = passed e.0 h in

@@ -108,11 +108,11 @@ have_numbers : (ps : List (Word × ℕ)) → AllByRecursion IsLightPower ps → 
 have_numbers [] h = tt
 have_numbers (p ∷ ps) h = (some-number p.0 h.0.word, have_numbers ps h.1)
 
-powers-formed : (ps : List (Word × ℕ)) → AllByRecursion IsLightPower ps → AllByRecursion IsFactor (map written_power ps)
+pub powers-formed : (ps : List (Word × ℕ)) → AllByRecursion IsLightPower ps → AllByRecursion IsFactor (map written_power ps)
 powers-formed [] h = tt
 powers-formed (p ∷ ps) h = (power-formed p h.0 (some-number p.0 h.0.word), powers-formed ps h.1)
 
-powers-read : (ps : List (Word × ℕ)) → AllByRecursion IsLightPower ps → map factor_of (map written_power ps) ≡ map power_factor ps
+pub powers-read : (ps : List (Word × ℕ)) → AllByRecursion IsLightPower ps → map factor_of (map written_power ps) ≡ map power_factor ps
 powers-read [] h = refl
 powers-read (p ∷ ps) h = λ i. power-read p h.0 (some-number p.0 h.0.word) i ∷ powers-read ps h.1 i
 
@@ -122,7 +122,7 @@ pub record IsLightMonomial (p : List Word) : Type 0 where
   pub few : length p < 99
   pub words : AllByRecursion IsLight p
 
-monomial-powers : (p : List Word) → IsLightMonomial p → AllByRecursion IsLightPower (powers_of p)
+pub monomial-powers : (p : List Word) → IsLightMonomial p → AllByRecursion IsLightPower (powers_of p)
 monomial-powers [] h = tt
 monomial-powers (u ∷ us) h = let f : length (u ∷ us) < 99 = h.few in powers-light u 1 us h.words.0 (omega arith) h.words.1 (omega arith)
 
@@ -130,7 +130,7 @@ some-powers : (p : List Word) → 0 < length p → 0 < length (powers_of p)
 some-powers [] h = absurd (omega arith)
 some-powers (u ∷ us) h = begins u 1 us
 
-spelled-column : (p : List Word) → IsLightMonomial p → IsSpelledColumn p
+pub spelled-column : (p : List Word) → IsLightMonomial p → IsSpelledColumn p
 spelled-column p h = record { some = some-powers p h.some; numbers = have_numbers (powers_of p) (monomial-powers p h) }
 
 and-true : (a b : Bool) → IsTrue (a && b) → (a ≡ true) × (b ≡ true)
@@ -149,14 +149,14 @@ some_factor : (p : List Word) → 2 ≤ length (joined p) → 0 < length p
 some_factor [] h = absurd (omega arith)
 some_factor (u ∷ us) h = omega arith
 
-light-column : (w d : ℕ) (p : List Word) → 2 ≤ w → IsColumn w d p → IsLightMonomial p
+pub light-column : (w d : ℕ) (p : List Word) → 2 ≤ w → IsColumn w d p → IsLightMonomial p
 light-column w d p h c =
     let few = length-monomial p c.monomial in
     let l : length (joined p) ≤ 24 = c.monomial.within in
     let e : length (joined p) ≡ w = c.weight in
     record { some = some_factor p (omega arith); few = omega arith; words = light-words p c.monomial.admissible l }
 
-admissible-words : (us : List Word) → AllByRecursion IsLight us → AllByRecursion IsAdmissible us
+pub admissible-words : (us : List Word) → AllByRecursion IsLight us → AllByRecursion IsAdmissible us
 admissible-words [] h = tt
 admissible-words (u ∷ us) h = ((h.0.begins_x, h.0.ends_y), admissible-words us h.1)
 

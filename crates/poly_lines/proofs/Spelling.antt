@@ -23,7 +23,7 @@ written_power p = written_zeta (map decimal (index_of p.0)) p.1
 abbrev pub written_term : List (List (List Letter)) → ℕ × ℕ → WrittenTerm
 written_term columns e = record { negative = false; first = number (decimal e.1); more = map written_power (powers_of (get_or columns e.0 [])) }
 
-put : (token : Token) (tokens : List Token) (rest : List ℕ) → IsSpelled tokens rest → IsSpelled (token ∷ tokens) (spelling token ++ rest)
+pub put : (token : Token) (tokens : List Token) (rest : List ℕ) → IsSpelled tokens rest → IsSpelled (token ∷ tokens) (spelling token ++ rest)
 put token tokens rest h = ([], rest, tt, refl, h)
 
 spelled_numbers : (ds : List (List ℕ)) (tokens : List Token) (rest : List ℕ) → IsSpelled tokens rest
@@ -70,7 +70,7 @@ spelled_power p tokens rest s h = go (index_of p.0) s
 abbrev pub HaveNumbers : List (List Letter × ℕ) → Type 0
 HaveNumbers ps = AllByRecursion (λ p. 0 < length (index_of p.0)) ps
 
-spelled_factors : (ps : List (List Letter × ℕ)) (tokens : List Token) (rest : List ℕ) → HaveNumbers ps → IsSpelled tokens rest
+pub spelled_factors : (ps : List (List Letter × ℕ)) (tokens : List Token) (rest : List ℕ) → HaveNumbers ps → IsSpelled tokens rest
     → IsSpelled (more_factors (map written_power ps) tokens) (behind_text 42 (map power_text ps) ++ rest)
 spelled_factors [] tokens rest s h = h
 spelled_factors (p ∷ ps) tokens rest s h =
@@ -79,7 +79,7 @@ spelled_factors (p ∷ ps) tokens rest s h =
     (put (mark Star) (factor_tokens (written_power p) (more_factors (map written_power ps) tokens)) (power_text p ++ (behind ++ rest))
     (spelled_power p (more_factors (map written_power ps) tokens) (behind ++ rest) s.0 (spelled_factors ps tokens rest s.1 h)))
 
-starred_join : (ps : List (List Letter × ℕ)) → 0 < length ps → 42 ∷ join_with_byte 42 (map power_text ps) ≡ behind_text 42 (map power_text ps)
+pub starred_join : (ps : List (List Letter × ℕ)) → 0 < length ps → 42 ∷ join_with_byte 42 (map power_text ps) ≡ behind_text 42 (map power_text ps)
 starred_join [] h = absurd (omega arith)
 starred_join (p ∷ ps) h = ap (λ bytes. 42 ∷ bytes) (join-cons 42 (power_text p) (map power_text ps))
 

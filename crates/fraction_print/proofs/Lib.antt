@@ -1,0 +1,5 @@
+pub mod SomeFractions
+pub mod CutSigns
+pub mod FractionTerms
+pub mod TextLaws
+pub mod TermSteps
