@@ -1,0 +1,17 @@
+mod ShuffleSteps
+mod Gaining
+mod NamedValues
+mod Certifying
+mod SumLemmas
+mod AddingEntries
+mod PlacingWords
+mod Zeros
+mod SummingPlaces
+mod MadeValues
+mod Evaluated
+mod RowsAtHand
+mod WhatIsLeft
+mod ReducedAt
+mod Telling
+mod FaultsTold
+mod VerdictsTold
