@@ -11,16 +11,17 @@ use Rattle.whole_runs.specs.declared.command.WordsFault.TheVariants.{Usage}
 use Rattle.whole_runs.specs.declared.status.Status.{Status}
 use Rattle.whole_runs.specs.declared.status.Status.TheVariants.{Done}
 use Rattle.whole_runs.specs.CommandLine.{Asked, Asks, IsInRange}
-use Rattle.whole_runs.specs.Works.{Work, IsWork, Wants}
+use Rattle.whole_runs.specs.Works.{Work}
+use Rattle.whole_runs.specs.Wanted.{IsWork, Wants}
 use Rattle.whole_runs.specs.Outcomes.{Outcome, RepliesTell, FailsTest}
 use Rattle.whole_runs.proofs.OneAsk.{one_ask}
 use Rattle.whole_runs.proofs.Outcomes.{each_asked}
 use Rattle.whole_runs.proofs.ReduceTells.{reduce_tells}
 
 -- what holds of each work of what is asked for holds of each that the words want
-pub each_wanted : (words : List (List ℕ)) (a : Asked) (P : Work → Type 0) → Asks words a → ((work : Work) → IsWork a work → P work)
-    → (work : Work) → Wants words work → P work
-each_wanted words a P asks h work wants = h work (subst (λ b. IsWork b work) (one_ask words wants.asked a wants.asks asks) wants.is_work)
+pub each_wanted : (words : List (List ℕ)) (contents : Option (List ℕ)) (a : Asked) (P : Work → Type 0) → Asks words a → ((work : Work) → IsWork a contents work → P work)
+    → (work : Work) → Wants words contents work → P work
+each_wanted words contents a P asks h work wants = h work (subst (λ b. IsWork b contents work) (one_ask words wants.asked a wants.asks asks) wants.is_work)
 
 module _ (words : List (List ℕ)) (command : Command) (asks : Asks words (Ok command)) where
   pub not_usage : ¬ (Asks words (Err Usage))
@@ -36,12 +37,13 @@ module _ (words : List (List ℕ)) (command : Command) (asks : Asks words (Ok co
       tells_sums m fits.0 fits.1
 
   -- and of `reduce`
-  pub table_tells : IsInRange command → (left taken taken_new : Option (List ℕ)) (result : Status) → Outcome (Ok command) left taken taken_new result
+  pub table_tells : IsInRange command → (contents left taken taken_new : Option (List ℕ)) (result : Status)
+      → Outcome (Ok command) contents left taken taken_new result
       → (params : Params) → Asks words (Ok (Reduce params)) → result ≡ Done → RepliesTell params left taken taken_new
-  table_tells range left taken taken_new result outcome params is done =
-      reduce_tells params left taken taken_new (each_asked words (Ok command) (λ a. IfOk a IsInRange) asks range (Ok (Reduce params)) is)
-      (subst (Outcome (Ok (Reduce params)) left taken taken_new) done
-      (each_asked words (Ok command) (λ a. Outcome a left taken taken_new result) asks outcome (Ok (Reduce params)) is))
+  table_tells range contents left taken taken_new result outcome params is done =
+      reduce_tells params contents left taken taken_new (each_asked words (Ok command) (λ a. IfOk a IsInRange) asks range (Ok (Reduce params)) is)
+      (subst (Outcome (Ok (Reduce params)) contents left taken taken_new) done
+      (each_asked words (Ok command) (λ a. Outcome a contents left taken taken_new result) asks outcome (Ok (Reduce params)) is))
 
 module _ (words : List (List ℕ)) (fault : WordsFault) (asks : Asks words (Err fault)) where
   pub same_fault : Asks words (Err Usage) → fault ≡ Usage

@@ -4,3 +4,5 @@ pub mod Samples
 pub mod Runs
 pub mod Probes
 pub mod Asking
+pub mod ShownTexts
+pub mod ShownPages

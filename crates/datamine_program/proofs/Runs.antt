@@ -7,9 +7,10 @@ use Rattle.whole_runs.specs.declared.status.Status.{Status}
 use Rattle.whole_runs.specs.declared.status.Status.TheVariants.{Done, Memory, Usage, Params, NoInverse, DiskFault, ReadFault, WriteFault}
 use Rattle.whole_runs.specs.declared.status.Status.TheVariants.{NotATable, NotComplete, TooMuchInput}
 use Rattle.whole_runs.specs.CommandLine.{Asked}
-use Rattle.whole_runs.specs.Works.{Work, IsWork, ReadsLines}
+use Rattle.whole_runs.specs.Works.{Work, ReadsLines}
+use Rattle.whole_runs.specs.Wanted.{IsWork}
 use Rattle.whole_runs.specs.Works.Work.{Replies}
-use Rattle.whole_runs.specs.Outcomes.{Has, Outcome, AnswersSeen, AsksForReplies}
+use Rattle.whole_runs.specs.Outcomes.{Has, Outcome, AnswersSeen, AsksForReplies, NamesFile}
 use Rattle.whole_runs.proofs.Outcomes.{each_work, outcome_of, answers_of}
 use Rattle.datamine_program.specs.Inner.{IsRun}
 
@@ -27,21 +28,21 @@ IsPlain NotATable = ⊥
 IsPlain NotComplete = ⊥
 IsPlain TooMuchInput = Unit {0}
 
--- nor is the source
+-- neither words nor parameters are refused, and the source is not used
 abbrev IsQuiet : Status → Type 0
 IsQuiet Done = Unit {0}
 IsQuiet Memory = Unit {0}
 IsQuiet Usage = ⊥
 IsQuiet Params = ⊥
 IsQuiet NoInverse = Unit {0}
-IsQuiet DiskFault = ⊥
+IsQuiet DiskFault = Unit {0}
 IsQuiet ReadFault = ⊥
 IsQuiet WriteFault = Unit {0}
-IsQuiet NotATable = ⊥
-IsQuiet NotComplete = ⊥
+IsQuiet NotATable = Unit {0}
+IsQuiet NotComplete = Unit {0}
 IsQuiet TooMuchInput = ⊥
 
--- how lines, a refusal and one line end
+-- how lines, a refusal, one line and the lines of a file end
 abbrev EndsLines : Status → Type 0
 EndsLines result = (result ≡ Done) ⊎ (result ≡ Memory) ⊎ (result ≡ ReadFault) ⊎ (result ≡ WriteFault) ⊎ (result ≡ TooMuchInput)
 
@@ -51,6 +52,10 @@ EndsRefusal result = (result ≡ NoInverse) ⊎ (result ≡ Memory) ⊎ (result 
 abbrev EndsSample : Status → Type 0
 EndsSample result = (result ≡ Done) ⊎ (result ≡ NoInverse) ⊎ (result ≡ Memory) ⊎ (result ≡ WriteFault)
 
+abbrev EndsFile : Status → Type 0
+EndsFile result =
+    (result ≡ Done) ⊎ (result ≡ Memory) ⊎ (result ≡ DiskFault) ⊎ (result ≡ WriteFault) ⊎ (result ≡ NotATable) ⊎ (result ≡ NotComplete)
+
 plain_lines : (result : Status) → EndsLines result → IsPlain result
 plain_lines result (inl e) = subst IsPlain (sym e) tt
 plain_lines result (inr (inl e)) = subst IsPlain (sym e) tt
@@ -58,11 +63,25 @@ plain_lines result (inr (inr (inl e))) = subst IsPlain (sym e) tt
 plain_lines result (inr (inr (inr (inl e)))) = subst IsPlain (sym e) tt
 plain_lines result (inr (inr (inr (inr e)))) = subst IsPlain (sym e) tt
 
+plain_sample : (result : Status) → EndsSample result → IsPlain result
+plain_sample result (inl e) = subst IsPlain (sym e) tt
+plain_sample result (inr (inl e)) = subst IsPlain (sym e) tt
+plain_sample result (inr (inr (inl e))) = subst IsPlain (sym e) tt
+plain_sample result (inr (inr (inr e))) = subst IsPlain (sym e) tt
+
 quiet_sample : (result : Status) → EndsSample result → IsQuiet result
 quiet_sample result (inl e) = subst IsQuiet (sym e) tt
 quiet_sample result (inr (inl e)) = subst IsQuiet (sym e) tt
 quiet_sample result (inr (inr (inl e))) = subst IsQuiet (sym e) tt
 quiet_sample result (inr (inr (inr e))) = subst IsQuiet (sym e) tt
+
+quiet_file : (result : Status) → EndsFile result → IsQuiet result
+quiet_file result (inl e) = subst IsQuiet (sym e) tt
+quiet_file result (inr (inl e)) = subst IsQuiet (sym e) tt
+quiet_file result (inr (inr (inl e))) = subst IsQuiet (sym e) tt
+quiet_file result (inr (inr (inr (inl e)))) = subst IsQuiet (sym e) tt
+quiet_file result (inr (inr (inr (inr (inl e))))) = subst IsQuiet (sym e) tt
+quiet_file result (inr (inr (inr (inr (inr e))))) = subst IsQuiet (sym e) tt
 
 refused_not_done : (result : Status) → EndsRefusal result → ¬ (result ≡ Done)
 refused_not_done result (inl e) d = cc
@@ -72,48 +91,56 @@ refused_not_done result (inr (inr e)) d = cc
 pub takes_none : (left : Option (List ℕ)) → TakesAtMost (input_limit + 1) left left
 takes_none left = record { seen = []; read = sym (before-nothing left); bounded = lit≤ tt }
 
--- the source was left alone
-quiet_run : (asked : Asked) (left taken taken_new : Option (List ℕ)) (result : Status) → Outcome asked left taken taken_new result → IsQuiet result
-    → (result ≡ Done → ¬ (AsksForReplies asked)) → IsRun asked left left taken taken_new result
-quiet_run asked left taken taken_new result outcome quiet alone = record {
-  outcome = outcome;
-  answered = λ e. absurd (subst IsQuiet e quiet);
-  read_fault = λ e. absurd (subst IsQuiet e quiet);
-  done = λ e asks. absurd (alone e asks);
-  takes = takes_none left;
-  usage = λ e. subst IsQuiet e quiet;
-  params = λ e. subst IsQuiet e quiet;
-  disk_fault = λ e. subst IsQuiet e quiet;
-}
+module _ (asked : Asked) (contents left taken taken_new : Option (List ℕ)) (result : Status) where
+  -- the source was left alone
+  quiet_run : Outcome asked contents left taken taken_new result → IsQuiet result → (result ≡ DiskFault → NamesFile asked)
+      → (result ≡ Done → ¬ (AsksForReplies asked)) → IsRun asked contents left left taken taken_new result
+  quiet_run outcome quiet file alone = record {
+    outcome = outcome;
+    answered = λ e. absurd (subst IsQuiet e quiet);
+    read_fault = λ e. absurd (subst IsQuiet e quiet);
+    done = λ e asks. absurd (alone e asks);
+    takes = takes_none left;
+    usage = λ e. subst IsQuiet e quiet;
+    params = λ e. subst IsQuiet e quiet;
+    disk_fault = file;
+  }
 
-module _ (asked : Asked) (left taken taken_new : Option (List ℕ)) (result : Status) where
   -- a residue without inverse was told, or memory was wanting
-  pub refused_run : Outcome asked left taken taken_new result → EndsRefusal result → IsRun asked left left taken taken_new result
+  pub refused_run : Outcome asked contents left taken taken_new result → EndsRefusal result → IsRun asked contents left left taken taken_new result
   refused_run outcome ends =
-      quiet_run asked left taken taken_new result outcome (quiet_sample result (inr ends)) (λ e. absurd (refused_not_done result ends e))
+      quiet_run outcome (quiet_sample result (inr ends)) (λ e. absurd (subst IsPlain e (plain_sample result (inr ends))))
+      (λ e. absurd (refused_not_done result ends e))
 
   -- one line was written, or a residue without inverse was told, or memory was wanting
-  pub written_run : Outcome asked left taken taken_new result → EndsSample result → ¬ (AsksForReplies asked) → IsRun asked left left taken taken_new result
-  written_run outcome ends alone = quiet_run asked left taken taken_new result outcome (quiet_sample result ends) (λ e. alone)
+  pub written_run : Outcome asked contents left taken taken_new result → EndsSample result → ¬ (AsksForReplies asked)
+      → IsRun asked contents left left taken taken_new result
+  written_run outcome ends alone =
+      quiet_run outcome (quiet_sample result ends) (λ e. absurd (subst IsPlain e (plain_sample result ends))) (λ e. alone)
 
-module _ (asked : Asked) (reply : List ℕ → List ℕ) (is : IsWork asked (Replies reply)) where
+  -- the lines of a file were written, or it was refused, or memory was wanting, or a call of the disk failed
+  pub file_run : Outcome asked contents left taken taken_new result → EndsFile result → NamesFile asked → ¬ (AsksForReplies asked)
+      → IsRun asked contents left left taken taken_new result
+  file_run outcome ends names alone = quiet_run outcome (quiet_file result ends) (λ e. names) (λ e. alone)
+
+module _ (asked : Asked) (contents : Option (List ℕ)) (reply : List ℕ → List ℕ) (is : IsWork asked contents (Replies reply)) where
   -- lines were replied to
   pub lines_run : (left left_new taken taken_new : Option (List ℕ)) (result : Status) → AsksForReplies asked → EndsLines result
       → Has (Replies reply) left taken taken_new result → TakesAtMost (input_limit + 1) left left_new → (result ≡ Done → Tells left_new [])
-      → (result ≡ ReadFault → AnswersSeen (Replies reply) left left_new taken taken_new) → IsRun asked left left_new taken taken_new result
+      → (result ≡ ReadFault → AnswersSeen (Replies reply) left left_new taken taken_new) → IsRun asked contents left left_new taken taken_new result
   lines_run left left_new taken taken_new result asks ends has takes done answered =
       let plain : IsPlain result = plain_lines result ends in
       record {
-        outcome = outcome_of asked (Replies reply) left taken taken_new result is has;
-        answered = λ e. answers_of asked (Replies reply) left left_new taken taken_new is (answered e);
+        outcome = outcome_of asked contents (Replies reply) left taken taken_new result is has;
+        answered = λ e. answers_of asked contents (Replies reply) left left_new taken taken_new is (answered e);
         read_fault = λ e. asks;
         done = λ e a. done e;
         takes = takes;
         usage = λ e. subst IsPlain e plain;
         params = λ e. subst IsPlain e plain;
-        disk_fault = λ e. subst IsPlain e plain;
+        disk_fault = λ e. absurd (subst IsPlain e plain);
       }
 
   -- each work of what is asked for reads lines
-  pub reads_lines : (work : Work) → IsWork asked work → ReadsLines work
-  reads_lines = each_work asked (Replies reply) ReadsLines is tt
+  pub reads_lines : (work : Work) → IsWork asked contents work → ReadsLines work
+  reads_lines = each_work asked contents (Replies reply) ReadsLines is tt

@@ -1,5 +1,5 @@
 -- The table of parameters by what its parts answer, and the work that follows from it.
-use Rattle.std.proofs.Common.{◌≡◌, ℕ, ◌<◌, List, length, refl, sym, ap, subst, ◌∙◌}
+use Rattle.std.proofs.Common.{◌≡◌, ℕ, ◌<◌, List, Option, length, refl, sym, ap, subst, ◌∙◌}
 use Rattle.std.specs.Prelude.{Bool, Ok, map}
 use Rattle.zeta_model.specs.declared.Letter.{Letter}
 use Rattle.zeta_model.specs.WordLists.{admissible_within}
@@ -16,7 +16,9 @@ use Rattle.line_samples.specs.Samples.{sample_lines}
 use Rattle.whole_runs.specs.declared.command.Command.TheVariants.{Reduce, Sample}
 use Rattle.whole_runs.specs.declared.status.Status.TheVariants as status
 use Rattle.whole_runs.specs.Texts.{word_line, relation_line, sample_line}
-use Rattle.whole_runs.specs.Works.{IsWork, IsTableOf, IsOverTable, ByRows, RepliesBy, CountsBy}
+use Rattle.file_model.specs.TableOf.{IsTableOf}
+use Rattle.whole_runs.specs.Works.{IsOverTable, ByRows, RepliesBy, CountsBy}
+use Rattle.whole_runs.specs.Wanted.{IsWork}
 use Rattle.whole_runs.specs.Works.Work.{Replies, Writes}
 use Rattle.whole_runs.specs.Works.IsOverRows.{no_inverse, broken, whole}
 use Rattle.datamine_program.specs.declared.table.TableFault.{TableFault}
@@ -86,27 +88,28 @@ relation_work : (params : Params) (done : ByRows) (value n : ℕ) → IsFaultOf 
     → IsOverTable params done (Writes (relation_line value n) status.NoInverse)
 relation_work params done value n h = record { columns = h.0; are_columns = h.1; by_rows = broken h.2 n value h.3 h.4 refl }
 
-pub reduce_fault : (params : Params) (fault : TableFault) → IsFaultOf params fault → IsFaultFor (Ok (Reduce params)) fault
-reduce_fault params (NoInverseWord value word) h = word_work params (RepliesBy params.modulus) value word h
-reduce_fault params (NoInverseRelation value n) h = relation_work params (RepliesBy params.modulus) value n h
-reduce_fault params Memory h = tt
+pub reduce_fault : (params : Params) (contents : Option (List ℕ)) (fault : TableFault) → IsFaultOf params fault → IsFaultFor (Ok (Reduce params)) contents fault
+reduce_fault params contents (NoInverseWord value word) h = word_work params (RepliesBy params.modulus) value word h
+reduce_fault params contents (NoInverseRelation value n) h = relation_work params (RepliesBy params.modulus) value n h
+reduce_fault params contents Memory h = tt
 
-pub sample_fault : (params : Params) (seed number : ℕ) (fault : TableFault) → IsFaultOf params fault → IsFaultFor (Ok (Sample params seed number)) fault
-sample_fault params seed number (NoInverseWord value word) h = word_work params (CountsBy params.modulus seed number) value word h
-sample_fault params seed number (NoInverseRelation value n) h = relation_work params (CountsBy params.modulus seed number) value n h
-sample_fault params seed number Memory h = tt
+pub sample_fault : (params : Params) (seed number : ℕ) (contents : Option (List ℕ)) (fault : TableFault) → IsFaultOf params fault
+    → IsFaultFor (Ok (Sample params seed number)) contents fault
+sample_fault params seed number contents (NoInverseWord value word) h = word_work params (CountsBy params.modulus seed number) value word h
+sample_fault params seed number contents (NoInverseRelation value n) h = relation_work params (CountsBy params.modulus seed number) value n h
+sample_fault params seed number contents Memory h = tt
 
-pub reduce_work : (params : Params) (rows columns : ℕ) (reply : List ℕ → List ℕ) → AreTableReplies params rows columns reply
-    → IsWork (Ok (Reduce params)) (Replies reply)
-reduce_work params rows columns reply h = record {
+pub reduce_work : (params : Params) (contents : Option (List ℕ)) (rows columns : ℕ) (reply : List ℕ → List ℕ) → AreTableReplies params rows columns reply
+    → IsWork (Ok (Reduce params)) contents (Replies reply)
+reduce_work params contents rows columns reply h = record {
   columns = h.columns;
   are_columns = h.made.are_columns;
   by_rows = whole h.made.converts h.made.unbroken rows h.lead h.rows h.made.reduced (record { reply = reply; replies = h.replies; is = refl });
 }
 
-pub sample_work : (params : Params) (seed number rows columns : ℕ) (reply : List ℕ → List ℕ) (text : List ℕ) → AreTableReplies params rows columns reply
-    → IsSampleText params seed number rows columns reply text → IsWork (Ok (Sample params seed number)) (Writes text status.Done)
-sample_work params seed number rows columns reply text h is =
+pub sample_work : (params : Params) (seed number : ℕ) (contents : Option (List ℕ)) (rows columns : ℕ) (reply : List ℕ → List ℕ) (text : List ℕ) → AreTableReplies params rows columns reply
+    → IsSampleText params seed number rows columns reply text → IsWork (Ok (Sample params seed number)) contents (Writes text status.Done)
+sample_work params seed number contents rows columns reply text h is =
     let are = h.made.are_columns in
     let line = λ (i : ℕ) (w d : ℕ). sample_line rows i (map reply (sample_lines (admissible_within w d) seed number)) in
     record {
@@ -118,3 +121,17 @@ sample_work params seed number rows columns reply text h is =
         is = ap (λ t. Writes t status.Done) (is ∙ (λ i. line (h.width i) (sym are.weight i) (sym are.depth i)));
       });
     }
+
+-- replies by the reduced rows of a table, whose number and columns are counted
+pub replies_of_table : (params : Params) (m : ℕ) (columns : ColumnList) (n count width : ℕ) (lead : ℕ → ℕ) (rows : ℕ → ℕ → ℕ) (reply : List ℕ → List ℕ)
+    → m ≡ params.modulus → count ≡ n → width ≡ length columns.list → IsTableMade params columns n lead rows
+    → AreReplies m columns n lead rows reply → AreTableReplies params count width reply
+replies_of_table params m columns n count width lead rows reply same counted wide made replies = record {
+  columns = columns;
+  lead = lead;
+  rows = rows;
+  made = subst (λ k. IsTableMade params columns k lead rows) (sym counted) made;
+  width = wide;
+  replies = subst (λ k. AreReplies k columns count lead rows reply) same
+      (subst (λ k. AreReplies m columns k lead rows reply) (sym counted) replies);
+}

@@ -1,27 +1,44 @@
 -- What single steps of the code answer. No public clause cites these, so a reader need not believe them.
-use Rattle.std.specs.Prelude.{◌≡◌, ℕ, ◌+◌, ◌<◌, Bool, true, false, List, [], ◌∷◌, ◌++◌, length, map, codes, decimal, Option}
+use Rattle.std.specs.Prelude.{◌≡◌, ℕ, zero, suc, ◌+◌, ◌<◌, Bool, true, false, List, [], ◌∷◌, ◌++◌, length, map, slice_get, codes, decimal, Option, Some, None, IfSome}
+use Rattle.std.specs.List.{AllByRecursion}
 use Rattle.word_letters.specs.Inner.{part_text}
 use Rattle.zeta_model.specs.declared.Letter.{Letter}
 use Rattle.zeta_model.specs.Indices.{index_of}
 use Rattle.zeta_model.specs.WordLists.{admissible_within}
 use Rattle.zeta_model.specs.Words.{has_index}
 use Rattle.column_order.specs.Columns.{ColumnList}
+use Rattle.outside_io.specs.Traces.{Trace}
 use Rattle.line_loop.specs.Lines.{input_limit}
 use Rattle.line_loop.specs.Talk.{Tells, TakesAtMost}
 use Rattle.page_codec.specs.declared.params.Params.{Params}
+use Rattle.page_codec.specs.declared.parts.FinalEntry.{FinalEntry}
+use Rattle.page_codec.specs.declared.page.Page.{Page}
+use Rattle.page_codec.specs.Bounds.{IsRowData}
+use Rattle.page_codec.specs.Places.{AreBelow, FitsPlace, WalkAt, walk_of}
+use Rattle.page_file.specs.Files.{IsForeign, IsBadPage, IsSealed, ReadsAs}
+use Rattle.page_file.specs.declared.fault.FileFault.{FileFault}
+use Rattle.page_file.specs.declared.fault.FileFault.TheVariants as reading
 use Rattle.table_model.specs.Conversion.{Converts}
 use Rattle.table_model.specs.ListedSpan.{values_of, count_of}
 use Rattle.table_model.specs.ReducedRows.{IsReducedRows, IsUnbroken, BreaksFirst}
-use Rattle.table_model.specs.Faults.{IsNotInvertible}
+use Rattle.table_model.specs.Faults.{IsNotInvertible, IsFirstWithout}
+use Rattle.file_model.specs.FinalRows.{finals_of, finals_of_page}
+use Rattle.file_model.specs.Builds.{FitsAt}
 use Rattle.table_rewrite.specs.Replies.{AreReplies}
 use Rattle.line_samples.specs.Samples.{sample_lines}
 use Rattle.whole_runs.specs.declared.status.Status.{Status}
 use Rattle.whole_runs.specs.declared.status.Status.TheVariants as status
 use Rattle.whole_runs.specs.CommandLine.{Asked}
-use Rattle.whole_runs.specs.Outcomes.{Outcome, AnswersSeen, AsksForReplies}
-use Rattle.whole_runs.specs.Texts.{word_line, relation_line, term_line, sample_line}
-use Rattle.whole_runs.specs.Works.{Work, IsTableOf, IsWork}
+use Rattle.whole_runs.specs.Outcomes.{Outcome, AnswersSeen, AsksForReplies, NamesFile}
+use Rattle.whole_runs.specs.Texts.{line, word_line, relation_line, term_line, sample_line}
+use Rattle.whole_runs.specs.FileTexts.{params_text, row_lines}
+use Rattle.whole_runs.specs.FileWorks.{FitsOwn}
+use Rattle.file_model.specs.TableOf.{IsTableOf}
+use Rattle.whole_runs.specs.Works.{Work}
+use Rattle.whole_runs.specs.Wanted.{IsWork}
 use Rattle.whole_runs.specs.Works.Work.{Writes}
+use Rattle.datamine_program.specs.declared.table_file.ShowFault.{ShowFault}
+use Rattle.datamine_program.specs.declared.table_file.ShowFault.TheVariants as shows
 use Rattle.datamine_program.specs.declared.table.TableFault.{TableFault}
 use Rattle.datamine_program.specs.declared.table.TableFault.TheVariants.{NoInverseWord, NoInverseRelation, Memory}
 use Rattle.lyndon_polys.specs.declared.fault.LyndonFault.{LyndonFault}
@@ -86,14 +103,14 @@ IsFaultOf params (NoInverseRelation value n) =
 IsFaultOf params Memory = Unit {0}
 
 -- the line of the fault is the work, unless memory was wanting
-abbrev pub IsFaultFor : Asked → TableFault → Type 0
-IsFaultFor asked (NoInverseWord value word) = IsWork asked (Writes (word_line value word) status.NoInverse)
-IsFaultFor asked (NoInverseRelation value n) = IsWork asked (Writes (relation_line value n) status.NoInverse)
-IsFaultFor asked Memory = Unit {0}
+abbrev pub IsFaultFor : Asked → Option (List ℕ) → TableFault → Type 0
+IsFaultFor asked contents (NoInverseWord value word) = IsWork asked contents (Writes (word_line value word) status.NoInverse)
+IsFaultFor asked contents (NoInverseRelation value n) = IsWork asked contents (Writes (relation_line value n) status.NoInverse)
+IsFaultFor asked contents Memory = Unit {0}
 
-abbrev pub IsSumFaultFor : Asked → SumFault → Type 0
-IsSumFaultFor asked (sums.NoInverse value term) = IsWork asked (Writes (term_line value term) status.NoInverse)
-IsSumFaultFor asked (sums.Memory e) = Unit {0}
+abbrev pub IsSumFaultFor : Asked → Option (List ℕ) → SumFault → Type 0
+IsSumFaultFor asked contents (sums.NoInverse value term) = IsWork asked contents (Writes (term_line value term) status.NoInverse)
+IsSumFaultFor asked contents (sums.Memory e) = Unit {0}
 
 -- the word that is told has an index
 abbrev pub HasText : TableFault → Type 0
@@ -101,13 +118,72 @@ HasText (NoInverseWord value word) = has_index word ≡ true
 HasText (NoInverseRelation value n) = Unit {0}
 HasText Memory = Unit {0}
 
--- what a run has of what was asked for, where neither words nor parameters are refused
-pub record IsRun (asked : Asked) (left left_new taken taken_new : Option (List ℕ)) (result : Status) : Type 0 where
-  pub outcome : Outcome asked left taken taken_new result
-  pub answered : result ≡ status.ReadFault → (work : Work) → IsWork asked work → AnswersSeen work left left_new taken taken_new
+-- what a run has of what was asked for, over what the disk tells, where neither words nor parameters are refused
+pub record IsRun (asked : Asked) (contents left left_new taken taken_new : Option (List ℕ)) (result : Status) : Type 0 where
+  pub outcome : Outcome asked contents left taken taken_new result
+  pub answered : result ≡ status.ReadFault → (work : Work) → IsWork asked contents work → AnswersSeen work left left_new taken taken_new
   pub read_fault : result ≡ status.ReadFault → AsksForReplies asked
   pub done : result ≡ status.Done → AsksForReplies asked → Tells left_new []
   pub takes : TakesAtMost (input_limit + 1) left left_new
   pub usage : ¬ (result ≡ status.Usage)
   pub params : ¬ (result ≡ status.Params)
-  pub disk_fault : ¬ (result ≡ status.DiskFault)
+  pub disk_fault : result ≡ status.DiskFault → NamesFile asked
+
+-- what stands before a preferred word, the first or another
+abbrev pub word_gap : Bool → List ℕ
+word_gap true = 32 ∷ []
+word_gap false = 43 ∷ []
+
+-- the lines of a header and of so many pages
+abbrev pub head_text : Params → ℕ → List ℕ
+head_text params pages = codes "table " ++ (line (params_text params) ++ (codes "pages " ++ line (decimal pages)))
+
+-- the entry's row has columns below n and residues below m
+pub record IsShowable (n m : ℕ) (e : FinalEntry) : Type 0 where
+  pub pairs : IsRowData e.row
+  pub below : AreBelow n m e.row
+
+abbrev pub CanShow : ℕ → ℕ → Page → Type 0
+CanShow n m page = AllByRecursion (IsShowable n m) (finals_of_page page)
+
+-- the walk stands behind some pages
+abbrev pub IsBehind : WalkAt → List Page → Type 0
+IsBehind walk before = walk ≡ walk_of walk.params walk.relations before
+
+-- a fault of looking at a file or of reading a page
+abbrev pub reading_fault : FileFault → ShowFault
+reading_fault reading.DiskFault = shows.DiskFault
+reading_fault (reading.Foreign n) = shows.Foreign n
+reading_fault (reading.BadPage i) = shows.BadPage i
+reading_fault (reading.Memory e) = shows.Memory
+
+-- no page is sealed, or the first is no header
+abbrev pub without_header : ℕ → ShowFault
+without_header zero = shows.NoPage
+without_header (suc n) = shows.Misplaced 0
+
+-- why a page is not gone over that comes behind others: a cause for each fault; over a disk that tells, each page is spelled
+abbrev pub IsPageFault : Type 0 → Option Trace → WalkAt → ℕ → ShowFault → Type 0
+IsPageFault rose told walk i shows.DiskFault = rose
+IsPageFault rose told walk i (shows.Foreign n) = ⊥
+IsPageFault rose told walk i (shows.BadPage n) = told ≡ None
+IsPageFault rose told walk i (shows.Misplaced n) =
+    (n ≡ i) × IfSome told (λ t. (pages before : List Page) → IsSealed pages t.now.contents → IsBehind walk before
+    → (page : Page) × (slice_get pages i ≡ Some page) × ¬ (FitsPlace walk.params walk.relations before page))
+IsPageFault rose told walk i shows.NoPage = ⊥
+IsPageFault rose told walk i shows.Memory = Unit {0}
+
+-- why the table in a file is not shown: a cause for each fault
+abbrev pub IsShowFault : Type 0 → Option Trace → ShowFault → Type 0
+IsShowFault rose told shows.DiskFault = rose
+IsShowFault rose told (shows.Foreign n) = IfSome told (λ t. IsForeign t.now.contents × (n ≡ length t.now.contents))
+IsShowFault rose told (shows.BadPage i) = IfSome told (λ t. (¬ (IsForeign t.now.contents)) × IsBadPage i t.now.contents)
+IsShowFault rose told (shows.Misplaced i) =
+    IfSome told (λ t. (pages : List Page) × ReadsAs pages t.now.contents × IsFirstWithout (FitsOwn pages) (length pages) i)
+IsShowFault rose told shows.NoPage = IfSome told (λ t. ReadsAs [] t.now.contents)
+IsShowFault rose told shows.Memory = Unit {0}
+
+-- all pages fit their places, and the lines of their rows stand behind the head
+pub record ShowsAll (params : Params) (columns : List (List (List Letter))) (pages : List Page) (head lines : List ℕ) : Type 0 where
+  pub fit : (i : ℕ) → i < length pages → FitsAt params pages i
+  pub lines_are : lines ≡ head ++ row_lines params.modulus columns (finals_of pages)

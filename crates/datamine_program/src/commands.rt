@@ -1,5 +1,5 @@
 //! The call that the program makes: the command that the words ask for is done.
-ghost use Rattle.std.specs.Prelude.{◌≡◌, ◌+◌, [], ℕ, map, string_bytes, Ok, Err};
+ghost use Rattle.std.specs.Prelude.{◌≡◌, ◌+◌, ◌≤◌, [], ℕ, map, string_bytes, Ok, Err};
 ghost use Rattle.outside_io.specs.Causes.{Rose};
 ghost use Rattle.line_loop.specs.Lines.{input_limit};
 ghost use Rattle.line_loop.specs.Talk.{Tells, TakesAtMost};
@@ -7,8 +7,9 @@ ghost use Rattle.dual_reply.specs.Canonical.{TellsSums};
 ghost use Rattle.page_codec.specs.declared.params.Params.{Params};
 ghost use Rattle.whole_runs.specs.Statuses.{ComesFor};
 ghost use Rattle.whole_runs.specs.CommandLine.{Asked, Asks, IsInRange};
-ghost use Rattle.whole_runs.specs.Works.{Work, IsWork, Wants, ReadsLines};
-ghost use Rattle.whole_runs.specs.Outcomes.{Outcome, AnswersSeen, RepliesTell, AsksForReplies, NamesFile, FailsTest};
+ghost use Rattle.whole_runs.specs.Works.{Work, ReadsLines};
+ghost use Rattle.whole_runs.specs.Wanted.{IsWork, Wants};
+ghost use Rattle.whole_runs.specs.Outcomes.{Outcome, AnswersSeen, RepliesTell, AsksForReplies, NamesFile, FailsTest, contents_of};
 ghost use Rattle.whole_runs.specs.declared.command.Command.TheVariants.{Dual, Reduce};
 ghost use Rattle.whole_runs.specs.declared.command.WordsFault.TheVariants.{Usage};
 ghost use Rattle.datamine_program.specs.Inner.{IsRun};
@@ -19,20 +20,27 @@ use crate::probe::run_probe;
 use crate::reduce::run_reduce;
 use crate::refusals::refuse;
 use crate::sample::run_sample;
+use crate::show::run_show;
 use outside_io::{Disk, Sink, Source};
 use std::alloc::Global;
 use whole_runs::{Command, Status, read_words};
 
 // Does what a command asks for.
-fn perform<S: Source, K: Sink>(
+fn perform<D: Disk, S: Source, K: Sink>(
     alloc: Global,
     command: Command,
+    disk: &mut D,
     source: &mut S,
     sink: &mut K,
 ) -> Status
     requires { IsInRange command }
-    ensures run { IsRun (Ok command) (S.left source.old) (S.left source.new) (K.taken sink.old) (K.taken sink.new) result }
-    ensures source { (work : Work) → IsWork (Ok command) work → ¬ (ReadsLines work) → source.new ≡ source.old }
+    ensures run { IsRun (Ok command) (contents_of (D.trace disk.old)) (S.left source.old) (S.left source.new) (K.taken sink.old) (K.taken sink.new) result }
+    ensures source { (work : Work) → IsWork (Ok command) (contents_of (D.trace disk.old)) work → ¬ (ReadsLines work) → source.new ≡ source.old }
+    ensures no_lines { ¬ (AsksForReplies (Ok command)) → source.new ≡ source.old }
+    ensures disk { ¬ (NamesFile (Ok command)) → disk.new ≡ disk.old }
+    ensures same { D.trace disk.new ≡ D.trace disk.old }
+    ensures faults { D.faults disk.old ≤ D.faults disk.new }
+    ensures disk_fault_only { result ≡ Status.DiskFault → Rose (D.faults disk.old) (D.faults disk.new) }
     ensures read_fault_only { result ≡ Status.ReadFault → Rose (S.faults source.old) (S.faults source.new) }
     ensures write_fault_only { result ≡ Status.WriteFault → Rose (K.faults sink.old) (K.faults sink.new) }
 {
@@ -46,6 +54,7 @@ fn perform<S: Source, K: Sink>(
             count,
         } => run_sample(alloc, &params, seed, count, sink),
         Command::Probe { terms, modulus } => run_probe(alloc, terms, modulus, source, sink),
+        Command::Show => run_show(alloc, disk, sink),
     }
 }
 
@@ -54,11 +63,14 @@ fn perform<S: Source, K: Sink>(
 /// `dual M`, `reduce W D M ORDER [PREF]` and `probe N M` read the source to its end, and write one reply and the byte 10 for each
 /// line: by duality, by the table of these parameters, which is made in memory before the first line is read, and by truncated sums up
 /// to N. `list W D` writes the names of the relations of weight W and depth at most D, one a line, with their numbers from 0.
-/// `sample W D M SEED COUNT` counts the replies of a table to lines that are made from the seed, and writes one line.
+/// `sample W D M SEED COUNT` counts the replies of a table to lines that are made from the seed, and writes one line. `show FILE` writes
+/// the header of the table in the file on the disk, how many pages it has, and its sealed final rows, one a line; the caller makes the disk
+/// by the name in its second word.
 ///
 /// `Usage` and `Params` come exactly where the words fit no command or a parameter test fails, whatever memory there is; only a write
 /// that fails may come in their place. `NoInverse` comes where a word, a relation or a number up to N tells a residue without inverse:
-/// the first is told, and no line is read. `DiskFault`, `ReadFault` and `WriteFault` come only where that object's count of faults rose in
+/// the first is told, and no line is read. With `show`, `NotATable` comes where the file is foreign, and with the first page that is not
+/// spelled or does not fit its place; `NotComplete` where it has no sealed page. `DiskFault`, `ReadFault` and `WriteFault` come only where that object's count of faults rose in
 /// this call. What is written is a first part of the whole run's output: all of it unless memory was wanting or a call failed, and with
 /// `ReadFault` the replies to the lines that are whole in the bytes that were read. `Done` says that the source was read to its end,
 /// where the command reads lines. `TooMuchInput` comes where it gives more than 67,108,864 bytes.
@@ -77,12 +89,15 @@ pub fn run<D: Disk, S: Source, K: Sink>(
         → (asked : Asked) × Asks (map string_bytes words.now) asked × AsksForReplies asked × Rose (S.faults source.old) (S.faults source.new) }
     ensures write_fault_only { result ≡ Status.WriteFault → Rose (K.faults sink.old) (K.faults sink.new) }
     ensures outcome { (asked : Asked) → Asks (map string_bytes words.now) asked
-        → Outcome asked (S.left source.old) (K.taken sink.old) (K.taken sink.new) result }
+        → Outcome asked (contents_of (D.trace disk.old)) (S.left source.old) (K.taken sink.old) (K.taken sink.new) result }
     ensures done { (asked : Asked) → Asks (map string_bytes words.now) asked → result ≡ Status.Done → AsksForReplies asked → Tells (S.left source.new) [] }
-    ensures answered { result ≡ Status.ReadFault → (work : Work) → Wants (map string_bytes words.now) work
+    ensures answered { result ≡ Status.ReadFault → (work : Work) → Wants (map string_bytes words.now) (contents_of (D.trace disk.old)) work
         → AnswersSeen work (S.left source.old) (S.left source.new) (K.taken sink.old) (K.taken sink.new) }
-    ensures disk { disk.new ≡ disk.old }
-    ensures source { (work : Work) → Wants (map string_bytes words.now) work → ¬ (ReadsLines work) → source.new ≡ source.old }
+    ensures no_lines { (asked : Asked) → Asks (map string_bytes words.now) asked → ¬ (AsksForReplies asked) → source.new ≡ source.old }
+    ensures disk { (asked : Asked) → Asks (map string_bytes words.now) asked → ¬ (NamesFile asked) → disk.new ≡ disk.old }
+    ensures unchanged { D.trace disk.new ≡ D.trace disk.old }
+    ensures faults { D.faults disk.old ≤ D.faults disk.new }
+    ensures source { (work : Work) → Wants (map string_bytes words.now) (contents_of (D.trace disk.old)) work → ¬ (ReadsLines work) → source.new ≡ source.old }
     ensures takes { TakesAtMost (input_limit + 1) (S.left source.old) (S.left source.new) }
 
     // With `dual` two accepted lines get the same text exactly where their sums differ by duality, and no accepted line is refused.
@@ -94,7 +109,7 @@ pub fn run<D: Disk, S: Source, K: Sink>(
         → RepliesTell params (S.left source.old) (K.taken sink.old) (K.taken sink.new) }
 {
     match read_words(words) {
-        Ok(command) => perform(alloc, command, source, sink),
+        Ok(command) => perform(alloc, command, disk, source, sink),
         Err(fault) => refuse(sink, fault),
     }
 }

@@ -1,5 +1,5 @@
 //! The command `dual`: each line is replied to by duality alone.
-ghost use Rattle.std.specs.Prelude.{◌≡◌, ◌≤◌, ◌<◌, ◌^◌, Ok};
+ghost use Rattle.std.specs.Prelude.{◌≡◌, ℕ, List, Option, ◌≤◌, ◌<◌, ◌^◌, Ok};
 ghost use Rattle.outside_io.specs.Causes.{Rose};
 ghost use Rattle.dual_reply.specs.Reply.{reply_of};
 ghost use Rattle.whole_runs.specs.declared.command.Command.TheVariants.{Dual};
@@ -48,7 +48,7 @@ pub(crate) fn run_dual<S: Source, K: Sink>(
 ) -> Status
     requires from { 3 ≤ modulus }
     requires below { modulus < 2 ^ 63 }
-    ensures run { IsRun (Ok (Dual modulus)) (S.left source.old) (S.left source.new) (K.taken sink.old) (K.taken sink.new) result }
+    ensures run { (contents : Option (List ℕ)) → IsRun (Ok (Dual modulus)) contents (S.left source.old) (S.left source.new) (K.taken sink.old) (K.taken sink.new) result }
     ensures read_fault_only { result ≡ Status.ReadFault → Rose (S.faults source.old) (S.faults source.new) }
     ensures write_fault_only { result ≡ Status.WriteFault → Rose (K.faults sink.old) (K.faults sink.new) }
 {

@@ -4,11 +4,13 @@
 //! What words ask for, what a whole run of it writes and how it ends is said by `whole_runs`. The crate stands on
 //! `line_loop` for commands that read lines, on `dual_reply`, `table_replies` and `probe_replies` for the replies to
 //! them, on `table_rows` for the rows of a table, on `line_samples` for lines that are made from a seed, on
-//! `relation_list` for the listing, and on `outside_io` for what it is lent.
+//! `relation_list` for the listing, on `page_file`, `page_codec`, `page_rows` and `poly_print` for the table in a file,
+//! and on `outside_io` for what it is lent.
 #![tactic(auto)]
 
 mod commands;
 mod dual;
+mod file_refusals;
 mod lines;
 mod list;
 mod no_inverse;
@@ -18,7 +20,10 @@ mod ready;
 mod reduce;
 mod refusals;
 mod sample;
+mod show;
 mod table;
+mod table_file;
+mod texts;
 mod writing;
 
 pub use commands::run;

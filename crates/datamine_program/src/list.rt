@@ -54,7 +54,7 @@ pub(crate) fn run_list<K: Sink>(alloc: Global, weight: u32, depth: u32, sink: &m
     requires some { 1 ≤ depth }
     requires below { depth < weight }
     ensures which { (result ≡ Status.Done) ⊎ (result ≡ Status.Memory) ⊎ (result ≡ Status.WriteFault) }
-    ensures outcome { (left : Option (List ℕ)) → Outcome (Ok (ListOf weight depth)) left (K.taken sink.old) (K.taken sink.new) result }
+    ensures outcome { (contents left : Option (List ℕ)) → Outcome (Ok (ListOf weight depth)) contents left (K.taken sink.old) (K.taken sink.new) result }
     ensures write_fault_only { result ≡ Status.WriteFault → Rose (K.faults sink.old) (K.faults sink.new) }
 {
     let Ok(lines) = listing_lines(alloc, weight, depth) else {

@@ -112,7 +112,7 @@ fn refuse_term<K: Sink>(sink: &mut K, value: u64, term: u32) -> Status
 pub(crate) fn refuse_table<K: Sink>(sink: &mut K, fault: TableFault) -> Status
     requires { HasText fault }
     ensures which { (result ≡ Status.NoInverse) ⊎ (result ≡ Status.Memory) ⊎ (result ≡ Status.WriteFault) }
-    ensures outcome { (asked : Asked) (left : Option (List ℕ)) → IsFaultFor asked fault → Outcome asked left (K.taken sink.old) (K.taken sink.new) result }
+    ensures outcome { (asked : Asked) (contents left : Option (List ℕ)) → IsFaultFor asked contents fault → Outcome asked contents left (K.taken sink.old) (K.taken sink.new) result }
     ensures write_fault_only { result ≡ Status.WriteFault → Rose (K.faults sink.old) (K.faults sink.new) }
 {
     match fault {
@@ -125,7 +125,7 @@ pub(crate) fn refuse_table<K: Sink>(sink: &mut K, fault: TableFault) -> Status
 // Tells why truncated sums were not made, and writes nothing where memory was wanting.
 pub(crate) fn refuse_sums<K: Sink>(sink: &mut K, fault: SumFault) -> Status
     ensures which { (result ≡ Status.NoInverse) ⊎ (result ≡ Status.Memory) ⊎ (result ≡ Status.WriteFault) }
-    ensures outcome { (asked : Asked) (left : Option (List ℕ)) → IsSumFaultFor asked fault → Outcome asked left (K.taken sink.old) (K.taken sink.new) result }
+    ensures outcome { (asked : Asked) (contents left : Option (List ℕ)) → IsSumFaultFor asked contents fault → Outcome asked contents left (K.taken sink.old) (K.taken sink.new) result }
     ensures write_fault_only { result ≡ Status.WriteFault → Rose (K.faults sink.old) (K.faults sink.new) }
 {
     match fault {

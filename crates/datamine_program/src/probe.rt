@@ -1,7 +1,8 @@
 //! The command `probe`: each line is replied to by truncated sums.
-ghost use Rattle.std.specs.Prelude.{◌≡◌, ◌≤◌, ◌<◌, ◌^◌, Ok};
+ghost use Rattle.std.specs.Prelude.{◌≡◌, ℕ, List, Option, ◌≤◌, ◌<◌, ◌^◌, Ok};
 ghost use Rattle.outside_io.specs.Causes.{Rose};
-ghost use Rattle.whole_runs.specs.Works.{Work, IsWork, ReadsLines};
+ghost use Rattle.whole_runs.specs.Works.{Work, ReadsLines};
+ghost use Rattle.whole_runs.specs.Wanted.{IsWork};
 ghost use Rattle.whole_runs.specs.declared.command.Command.TheVariants.{Probe};
 ghost use Rattle.datamine_program.specs.Inner.{IsRun};
 
@@ -24,8 +25,8 @@ fn probe_over<R: Ring, S: Source, K: Sink>(
 ) -> Status
     requires from { 1 ≤ terms }
     requires most { terms ≤ 10000 }
-    ensures run { IsRun (Ok (Probe terms (R.modulus ring))) (S.left source.old) (S.left source.new) (K.taken sink.old) (K.taken sink.new) result }
-    ensures source { (work : Work) → IsWork (Ok (Probe terms (R.modulus ring))) work → ¬ (ReadsLines work) → source.new ≡ source.old }
+    ensures run { (contents : Option (List ℕ)) → IsRun (Ok (Probe terms (R.modulus ring))) contents (S.left source.old) (S.left source.new) (K.taken sink.old) (K.taken sink.new) result }
+    ensures source { (contents : Option (List ℕ)) (work : Work) → IsWork (Ok (Probe terms (R.modulus ring))) contents work → ¬ (ReadsLines work) → source.new ≡ source.old }
     ensures read_fault_only { result ≡ Status.ReadFault → Rose (S.faults source.old) (S.faults source.new) }
     ensures write_fault_only { result ≡ Status.WriteFault → Rose (K.faults sink.old) (K.faults sink.new) }
 {
@@ -47,8 +48,8 @@ pub(crate) fn run_probe<S: Source, K: Sink>(
     requires most { terms ≤ 10000 }
     requires modulus_from { 3 ≤ modulus }
     requires modulus_below { modulus < 2 ^ 63 }
-    ensures run { IsRun (Ok (Probe terms modulus)) (S.left source.old) (S.left source.new) (K.taken sink.old) (K.taken sink.new) result }
-    ensures source { (work : Work) → IsWork (Ok (Probe terms modulus)) work → ¬ (ReadsLines work) → source.new ≡ source.old }
+    ensures run { (contents : Option (List ℕ)) → IsRun (Ok (Probe terms modulus)) contents (S.left source.old) (S.left source.new) (K.taken sink.old) (K.taken sink.new) result }
+    ensures source { (contents : Option (List ℕ)) (work : Work) → IsWork (Ok (Probe terms modulus)) contents work → ¬ (ReadsLines work) → source.new ≡ source.old }
     ensures read_fault_only { result ≡ Status.ReadFault → Rose (S.faults source.old) (S.faults source.new) }
     ensures write_fault_only { result ≡ Status.WriteFault → Rose (K.faults sink.old) (K.faults sink.new) }
 {

@@ -1,8 +1,9 @@
 //! The command `reduce`: each line is replied to by the reduced rows of a table that is made in memory.
-ghost use Rattle.std.specs.Prelude.{◌≡◌, Ok};
+ghost use Rattle.std.specs.Prelude.{◌≡◌, ℕ, List, Option, Ok};
 ghost use Rattle.outside_io.specs.Causes.{Rose};
 ghost use Rattle.page_codec.specs.Bounds.{IsParams};
-ghost use Rattle.whole_runs.specs.Works.{Work, IsWork, ReadsLines};
+ghost use Rattle.whole_runs.specs.Works.{Work, ReadsLines};
+ghost use Rattle.whole_runs.specs.Wanted.{IsWork};
 ghost use Rattle.whole_runs.specs.declared.command.Command.TheVariants.{Reduce};
 ghost use Rattle.datamine_program.specs.Inner.{IsRun};
 
@@ -26,8 +27,8 @@ fn reduce_over<R: Ring, S: Source, K: Sink>(
 ) -> Status
     requires params { IsParams params.now }
     requires ring { R.modulus ring ≡ params.now.modulus }
-    ensures run { IsRun (Ok (Reduce params.now)) (S.left source.old) (S.left source.new) (K.taken sink.old) (K.taken sink.new) result }
-    ensures source { (work : Work) → IsWork (Ok (Reduce params.now)) work → ¬ (ReadsLines work) → source.new ≡ source.old }
+    ensures run { (contents : Option (List ℕ)) → IsRun (Ok (Reduce params.now)) contents (S.left source.old) (S.left source.new) (K.taken sink.old) (K.taken sink.new) result }
+    ensures source { (contents : Option (List ℕ)) (work : Work) → IsWork (Ok (Reduce params.now)) contents work → ¬ (ReadsLines work) → source.new ≡ source.old }
     ensures read_fault_only { result ≡ Status.ReadFault → Rose (S.faults source.old) (S.faults source.new) }
     ensures write_fault_only { result ≡ Status.WriteFault → Rose (K.faults sink.old) (K.faults sink.new) }
 {
@@ -45,8 +46,8 @@ pub(crate) fn run_reduce<S: Source, K: Sink>(
     sink: &mut K,
 ) -> Status
     requires { IsParams params.now }
-    ensures run { IsRun (Ok (Reduce params.now)) (S.left source.old) (S.left source.new) (K.taken sink.old) (K.taken sink.new) result }
-    ensures source { (work : Work) → IsWork (Ok (Reduce params.now)) work → ¬ (ReadsLines work) → source.new ≡ source.old }
+    ensures run { (contents : Option (List ℕ)) → IsRun (Ok (Reduce params.now)) contents (S.left source.old) (S.left source.new) (K.taken sink.old) (K.taken sink.new) result }
+    ensures source { (contents : Option (List ℕ)) (work : Work) → IsWork (Ok (Reduce params.now)) contents work → ¬ (ReadsLines work) → source.new ≡ source.old }
     ensures read_fault_only { result ≡ Status.ReadFault → Rose (S.faults source.old) (S.faults source.new) }
     ensures write_fault_only { result ≡ Status.WriteFault → Rose (K.faults sink.old) (K.faults sink.new) }
 {

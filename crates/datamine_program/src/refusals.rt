@@ -80,7 +80,7 @@ pub(crate) fn refuse<K: Sink>(sink: &mut K, fault: WordsFault) -> Status
     ensures which { (result ≡ Status.Usage) ⊎ (result ≡ Status.Params) ⊎ (result ≡ Status.WriteFault) }
     ensures usage { ComesFor (fault ≡ WordsFault.Usage) Status.Usage result }
     ensures params { ComesFor (FailsTest (Err fault)) Status.Params result }
-    ensures outcome { (left : Option (List ℕ)) → Outcome (Err fault) left (K.taken sink.old) (K.taken sink.new) result }
+    ensures outcome { (contents left : Option (List ℕ)) → Outcome (Err fault) contents left (K.taken sink.old) (K.taken sink.new) result }
     ensures write_fault_only { result ≡ Status.WriteFault → Rose (K.faults sink.old) (K.faults sink.new) }
 {
     match fault {

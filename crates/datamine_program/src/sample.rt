@@ -1,5 +1,5 @@
 //! The command `sample`: lines that are made from a seed get their replies by a table, and these are counted.
-ghost use Rattle.std.specs.Prelude.{◌≡◌, ◌⊎◌, ◌++◌, ℕ, List, Option, Ok, IfOk, OnOk, decimal, string_bytes};
+ghost use Rattle.std.specs.Prelude.{◌≡◌, ◌⊎◌, ℕ, List, Option, Ok, IfOk, string_bytes};
 ghost use Rattle.outside_io.specs.Causes.{Rose};
 ghost use Rattle.page_codec.specs.Bounds.{IsParams};
 ghost use Rattle.whole_runs.specs.Outcomes.{Outcome};
@@ -8,8 +8,8 @@ ghost use Rattle.datamine_program.specs.Inner.{counts_text, IsSampleText};
 
 use crate::no_inverse::refuse_table;
 use crate::ready::{Ready, make_ready};
+use crate::texts::push_count;
 use crate::writing::write_and_end;
-use itoa::Buffer;
 use line_loop::Replier;
 use line_samples::{Sampled, sample_replies};
 use odd_residues::ResidueRing;
@@ -20,15 +20,6 @@ use std::alloc::{AllocError, Global};
 use table_replies::TableReplies;
 use whole_runs::Status;
 use word_letters::admissible_words;
-
-// Puts a text and a number at the end of a line.
-fn push_count(line: &mut String, text: &str, number: u64) -> Result<(), AllocError>
-    ensures { OnOk result (string_bytes line.new ≡ string_bytes line.old ++ (text.now ++ decimal number)) }
-{
-    line.push_str(text)?;
-    let mut digits = Buffer::new();
-    line.push_str(digits.format(number))
-}
 
 // The line of what was counted.
 fn counts_line(
@@ -79,7 +70,7 @@ fn sample_over<R: Ring, K: Sink>(
     requires params { IsParams params.now }
     requires ring { R.modulus ring ≡ params.now.modulus }
     ensures which { (result ≡ Status.Done) ⊎ (result ≡ Status.NoInverse) ⊎ (result ≡ Status.Memory) ⊎ (result ≡ Status.WriteFault) }
-    ensures outcome { (left : Option (List ℕ)) → Outcome (Ok (Sample params.now seed count)) left (K.taken sink.old) (K.taken sink.new) result }
+    ensures outcome { (contents left : Option (List ℕ)) → Outcome (Ok (Sample params.now seed count)) contents left (K.taken sink.old) (K.taken sink.new) result }
     ensures write_fault_only { result ≡ Status.WriteFault → Rose (K.faults sink.old) (K.faults sink.new) }
 {
     let ready = match make_ready(alloc, ring, params) {
@@ -102,7 +93,7 @@ pub(crate) fn run_sample<K: Sink>(
 ) -> Status
     requires { IsParams params.now }
     ensures which { (result ≡ Status.Done) ⊎ (result ≡ Status.NoInverse) ⊎ (result ≡ Status.Memory) ⊎ (result ≡ Status.WriteFault) }
-    ensures outcome { (left : Option (List ℕ)) → Outcome (Ok (Sample params.now seed count)) left (K.taken sink.old) (K.taken sink.new) result }
+    ensures outcome { (contents left : Option (List ℕ)) → Outcome (Ok (Sample params.now seed count)) contents left (K.taken sink.old) (K.taken sink.new) result }
     ensures write_fault_only { result ≡ Status.WriteFault → Rose (K.faults sink.old) (K.faults sink.new) }
 {
     match ResidueRing::new(params.modulus) {

@@ -3,7 +3,7 @@ ghost use Rattle.std.specs.Prelude.{◌≡◌, length, IfOk, IfErr};
 ghost use Rattle.echelon.specs.Lists.{lead_at, row_at};
 ghost use Rattle.page_codec.specs.Bounds.{IsParams};
 ghost use Rattle.table_rewrite.specs.Replies.{AreOver};
-ghost use Rattle.whole_runs.specs.Works.{IsTableOf};
+ghost use Rattle.file_model.specs.TableOf.{IsTableOf};
 ghost use Rattle.datamine_program.specs.Inner.{conversion_fault, relation_fault, IsTableMade, IsFaultOf};
 
 use column_order::{Columns, ColumnsFault, RankRule, rank};
@@ -54,7 +54,7 @@ fn relation_fault(fault: RowsFault) -> TableFault
 }
 
 // The columns of the parameters, in their order.
-fn columns_of(alloc: Global, params: &Params) -> Result<Columns, AllocError>
+pub(crate) fn columns_of(alloc: Global, params: &Params) -> Result<Columns, AllocError>
     requires { IsParams params.now }
     ensures { IfOk result (IsTableOf params.now) }
 {

@@ -1,9 +1,9 @@
 pub mod Numbers
 pub mod Parameters
 pub mod OneAsk
-pub mod TableColumns
 pub mod ProbeReplies
 pub mod Probes
+pub mod OneShow
 pub mod OneWork
 pub mod SomeWork
 pub mod Outcomes

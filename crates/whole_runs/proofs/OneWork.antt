@@ -1,5 +1,5 @@
 -- What is asked for is one work.
-use Rattle.std.specs.Prelude.{◌≡◌, ℕ, List, length, map, Ok, Err}
+use Rattle.std.specs.Prelude.{◌≡◌, ℕ, List, length, map, Option, Some, None, Ok, Err}
 use Rattle.std.proofs.Common.{sym, ◌∙◌, subst}
 use Rattle.zeta_model.specs.WordLists.{admissible_within}
 use Rattle.column_order.specs.Columns.{ColumnList}
@@ -12,16 +12,18 @@ use Rattle.table_model.proofs.ReducedRowsLaws.{reduced_rows_counts}
 use Rattle.table_model.proofs.FirstFaults.{not_invertible_unique, not_invertible_word, first_break}
 use Rattle.line_samples.specs.Samples.{sample_lines}
 use Rattle.table_rewrite.proofs.LineReplies.{one_reply}
-use Rattle.whole_runs.specs.declared.command.Command.TheVariants.{Dual, List as ListOf, Reduce, Sample, Probe}
+use Rattle.whole_runs.specs.declared.command.Command.TheVariants.{Dual, List as ListOf, Reduce, Sample, Probe, Show}
 use Rattle.whole_runs.specs.declared.command.WordsFault.TheVariants.{Usage, Param, Count, Terms}
 use Rattle.whole_runs.specs.declared.status.Status.TheVariants as status
 use Rattle.whole_runs.specs.CommandLine.{Asked}
 use Rattle.whole_runs.specs.Texts.{word_line, relation_line, sample_line}
-use Rattle.whole_runs.specs.Works.{Work, ByRows, IsOverRows, IsOverTable, RepliesBy, CountsBy, IsWork}
+use Rattle.whole_runs.specs.Works.{Work, ByRows, IsOverRows, IsOverTable, RepliesBy, CountsBy}
+use Rattle.whole_runs.specs.Wanted.{IsWork}
 use Rattle.whole_runs.specs.Works.Work.{Replies, Writes}
 use Rattle.whole_runs.specs.Works.IsOverRows.{no_inverse, broken, whole}
-use Rattle.whole_runs.proofs.TableColumns.{same_columns}
+use Rattle.file_model.proofs.ParamColumns.{same_columns}
 use Rattle.whole_runs.proofs.Probes.{one_probe}
+use Rattle.whole_runs.proofs.OneShow.{one_show}
 
 module _ (m : ℕ) (columns : ColumnList) where
   -- what is done with two lists of the reduced rows of all relations is one work
@@ -70,15 +72,17 @@ one_over_table params done v w once x y =
     one_over_rows params.modulus x.columns of.table done v w (once x.columns of.table) x.by_rows
     (subst (λ c. IsOverRows params.modulus c done w) same y.by_rows)
 
-pub one_work : (asked : Asked) (v w : Work) → IsWork asked v → IsWork asked w → v ≡ w
-one_work (Err Usage) v w x y = x ∙ sym y
-one_work (Err (Param fault)) v w x y = x ∙ sym y
-one_work (Err (Count n)) v w x y = x ∙ sym y
-one_work (Err (Terms n)) v w x y = x ∙ sym y
-one_work (Ok (Dual m)) v w x y = x ∙ sym y
-one_work (Ok (ListOf a d)) v w x y = x ∙ sym y
-one_work (Ok (Reduce params)) v w x y =
+pub one_work : (asked : Asked) (contents : Option (List ℕ)) (v w : Work) → IsWork asked contents v → IsWork asked contents w → v ≡ w
+one_work (Err Usage) contents v w x y = x ∙ sym y
+one_work (Err (Param fault)) contents v w x y = x ∙ sym y
+one_work (Err (Count n)) contents v w x y = x ∙ sym y
+one_work (Err (Terms n)) contents v w x y = x ∙ sym y
+one_work (Ok (Dual m)) contents v w x y = x ∙ sym y
+one_work (Ok (ListOf a d)) contents v w x y = x ∙ sym y
+one_work (Ok (Reduce params)) contents v w x y =
     one_over_table params (RepliesBy params.modulus) v w (λ columns table. one_replies params.modulus columns table v w) x y
-one_work (Ok (Sample params seed number)) v w x y =
+one_work (Ok (Sample params seed number)) contents v w x y =
     one_over_table params (CountsBy params.modulus seed number) v w (λ columns table. one_count params.modulus columns table seed number v w) x y
-one_work (Ok (Probe n m)) v w x y = one_probe n m v w x y
+one_work (Ok (Probe n m)) contents v w x y = one_probe n m v w x y
+one_work (Ok Show) (Some bytes) v w x y = one_show bytes v w x y
+one_work (Ok Show) None v w x y = absurd x

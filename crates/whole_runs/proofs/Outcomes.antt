@@ -7,27 +7,29 @@ use Rattle.line_loop.specs.Talk.{Tells}
 use Rattle.whole_runs.specs.declared.status.Status.{Status}
 use Rattle.whole_runs.specs.Statuses.{BreaksOff}
 use Rattle.whole_runs.specs.CommandLine.{Asked, Asks}
-use Rattle.whole_runs.specs.Works.{Work, output_of, IsWork}
+use Rattle.whole_runs.specs.Works.{Work, output_of}
+use Rattle.whole_runs.specs.Wanted.{IsWork}
 use Rattle.whole_runs.specs.Works.Work.{Writes}
 use Rattle.whole_runs.specs.Outcomes.{Has, Outcome, AnswersSeen}
 use Rattle.whole_runs.proofs.OneAsk.{one_ask}
 use Rattle.whole_runs.proofs.OneWork.{one_work}
 
 -- what holds of the work holds of each
-pub each_work : (asked : Asked) (work : Work) (P : Work → Type 0) → IsWork asked work → P work → (v : Work) → IsWork asked v → P v
-each_work asked work P is holds v other = subst P (one_work asked work v is other) holds
+pub each_work : (asked : Asked) (contents : Option (List ℕ)) (work : Work) (P : Work → Type 0) → IsWork asked contents work → P work
+    → (v : Work) → IsWork asked contents v → P v
+each_work asked contents work P is holds v other = subst P (one_work asked contents work v is other) holds
 
 -- what holds of what is asked for holds of all that is
 pub each_asked : (words : List (List ℕ)) (a : Asked) (P : Asked → Type 0) → Asks words a → P a → (b : Asked) → Asks words b → P b
 each_asked words a P asks holds b other = subst P (one_ask words a b asks other) holds
 
-pub outcome_of : (asked : Asked) (work : Work) (left taken taken_new : Option (List ℕ)) (result : Status) → IsWork asked work
-    → Has work left taken taken_new result → Outcome asked left taken taken_new result
-outcome_of asked work left taken taken_new result is run = record {
+pub outcome_of : (asked : Asked) (contents : Option (List ℕ)) (work : Work) (left taken taken_new : Option (List ℕ)) (result : Status)
+    → IsWork asked contents work → Has work left taken taken_new result → Outcome asked contents left taken taken_new result
+outcome_of asked contents work left taken taken_new result is run = record {
   input = run.input;
   told = run.told;
-  front = each_work asked work (λ v. AppendsFront taken taken_new (output_of v run.input)) is run.front;
-  whole = elim run.whole [ inl broken ↦ inl broken | inr (all, end) ↦ inr (work, is, all, end) ];
+  front = each_work asked contents work (λ v. AppendsFront taken taken_new (output_of v run.input)) is run.front;
+  whole = λ told. elim run.whole [ inl broken ↦ inl broken | inr (all, end) ↦ inr (work, is, all, end) ];
 }
 
 -- some bytes that a source tells, where it tells
@@ -36,14 +38,17 @@ some_input None = ([], tt)
 some_input (Some xs) = (xs, refl)
 
 -- nothing was written
-pub broken_off : (asked : Asked) (left taken : Option (List ℕ)) (result : Status) → BreaksOff result → Outcome asked left taken taken result
-broken_off asked left taken result broken =
+pub broken_off : (asked : Asked) (contents left taken : Option (List ℕ)) (result : Status) → BreaksOff result
+    → Outcome asked contents left taken taken result
+broken_off asked contents left taken result broken =
     let input = some_input left in
-    record { input = input.0; told = input.1; front = λ work is. none_taken taken (output_of work input.0); whole = inl broken }
+    record { input = input.0; told = input.1; front = λ work is. none_taken taken (output_of work input.0); whole = λ told. inl broken }
 
-pub answers_of : (asked : Asked) (work : Work) (left left_new taken taken_new : Option (List ℕ)) → IsWork asked work
-    → AnswersSeen work left left_new taken taken_new → (v : Work) → IsWork asked v → AnswersSeen v left left_new taken taken_new
-answers_of asked work left left_new taken taken_new is seen = each_work asked work (λ v. AnswersSeen v left left_new taken taken_new) is seen
+pub answers_of : (asked : Asked) (contents : Option (List ℕ)) (work : Work) (left left_new taken taken_new : Option (List ℕ))
+    → IsWork asked contents work → AnswersSeen work left left_new taken taken_new
+    → (v : Work) → IsWork asked contents v → AnswersSeen v left left_new taken taken_new
+answers_of asked contents work left left_new taken taken_new is seen =
+    each_work asked contents work (λ v. AnswersSeen v left left_new taken taken_new) is seen
 
 module _ (bytes : List ℕ) (end : Status) (taken taken_new left : Option (List ℕ)) where
   has : (result : Status) → AppendsFront taken taken_new bytes → BreaksOff result ⊎ ((taken_new ≡ after_told taken bytes) × (result ≡ end))

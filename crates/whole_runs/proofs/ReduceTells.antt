@@ -11,7 +11,8 @@ use Rattle.whole_runs.specs.declared.command.Command.TheVariants.{Reduce}
 use Rattle.whole_runs.specs.declared.status.Status.{Status}
 use Rattle.whole_runs.specs.declared.status.Status.TheVariants as status
 use Rattle.whole_runs.specs.Statuses.{BreaksOff}
-use Rattle.whole_runs.specs.Works.{Work, output_of, status_of, IsTableOf, IsOverRows, IsOverTable, RepliesBy}
+use Rattle.file_model.specs.TableOf.{IsTableOf}
+use Rattle.whole_runs.specs.Works.{Work, output_of, status_of, IsOverRows, IsOverTable, RepliesBy}
 use Rattle.whole_runs.specs.Works.IsOverRows.{no_inverse, broken, whole}
 use Rattle.whole_runs.specs.Outcomes.{Outcome, RepliesTell}
 
@@ -24,8 +25,8 @@ not_broken_off (inr (inr (inr e))) = cc
 no_fault : ◌≡◌ {A = Status} status.Done status.NoInverse → ⊥
 no_fault e = cc
 
-module _ (params : Params) (fits : IsParams params) (left taken taken_new : Option (List ℕ))
-    (o : Outcome (Ok (Reduce params)) left taken taken_new status.Done) where
+module _ (params : Params) (fits : IsParams params) (contents left taken taken_new : Option (List ℕ))
+    (o : Outcome (Ok (Reduce params)) contents left taken taken_new status.Done) where
   by_rows : (columns : ColumnList) → IsTableOf params columns → (work : Work) → IsOverRows params.modulus columns (RepliesBy params.modulus) work
       → taken_new ≡ after_told taken (output_of work o.input) → status.Done ≡ status_of work o.input → RepliesTell params left taken taken_new
   by_rows columns of work (no_inverse u r f x) wrote end = absurd (no_fault (end ∙ ap (λ v. status_of v o.input) x))
@@ -41,11 +42,11 @@ module _ (params : Params) (fits : IsParams params) (left taken taken_new : Opti
         (subst (λ w. TellsClasses params.modulus w columns.depth x.reply) of.weight told);
   }
 
-pub reduce_tells : (params : Params) (left taken taken_new : Option (List ℕ)) → IsParams params → Outcome (Ok (Reduce params)) left taken taken_new status.Done
-    → RepliesTell params left taken taken_new
-reduce_tells params left taken taken_new fits o = elim o.whole [
+pub reduce_tells : (params : Params) (contents left taken taken_new : Option (List ℕ)) → IsParams params
+    → Outcome (Ok (Reduce params)) contents left taken taken_new status.Done → RepliesTell params left taken taken_new
+reduce_tells params contents left taken taken_new fits o = elim (o.whole (λ names. absurd names)) [
   | inl b ↦ absurd (not_broken_off b)
   | inr (work, is, wrote, end) ↦
       let over : IsOverTable params (RepliesBy params.modulus) work = is in
-      by_rows params fits left taken taken_new o over.columns over.are_columns work over.by_rows wrote end
+      by_rows params fits contents left taken taken_new o over.columns over.are_columns work over.by_rows wrote end
 ]

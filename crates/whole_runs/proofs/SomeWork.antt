@@ -1,5 +1,5 @@
 -- What is asked for in range is some work.
-use Rattle.std.specs.Prelude.{ℕ, List, length, map, Ok, Err, IfOk}
+use Rattle.std.specs.Prelude.{ℕ, List, length, map, Option, Ok, Err, IfOk}
 use Rattle.std.proofs.Common.{refl, inl, inr, arith}
 use Rattle.zeta_model.specs.WordLists.{admissible_within}
 use Rattle.linear_model.specs.Reduced.{IsReduced}
@@ -15,16 +15,18 @@ use Rattle.table_model.proofs.ForwardRowLaws.{unbroken_has_rows}
 use Rattle.table_model.proofs.FindingFaults.{converts_or_fault, unbroken_or_breaks}
 use Rattle.line_samples.specs.Samples.{sample_lines}
 use Rattle.table_rewrite.proofs.LineReplies.{some_reply}
-use Rattle.whole_runs.specs.declared.command.Command.TheVariants.{Dual, List as ListOf, Reduce, Sample, Probe}
+use Rattle.whole_runs.specs.declared.command.Command.TheVariants.{Dual, List as ListOf, Reduce, Sample, Probe, Show}
 use Rattle.whole_runs.specs.declared.command.WordsFault.TheVariants.{Usage, Param, Count, Terms}
 use Rattle.whole_runs.specs.declared.status.Status.TheVariants as status
 use Rattle.whole_runs.specs.CommandLine.{Asked, IsInRange}
 use Rattle.whole_runs.specs.Texts.{usage_line, param_line, count_line, terms_line, name_lines, word_line, relation_line, sample_line}
-use Rattle.whole_runs.specs.Works.{Work, ByRows, IsOverRows, IsOverTable, RepliesBy, CountsBy, IsWork}
+use Rattle.whole_runs.specs.Works.{Work, ByRows, IsOverRows, IsOverTable, RepliesBy, CountsBy}
+use Rattle.whole_runs.specs.Wanted.{IsWork}
 use Rattle.whole_runs.specs.Works.Work.{Replies, Writes}
 use Rattle.whole_runs.specs.Works.IsOverRows.{no_inverse, broken, whole}
-use Rattle.whole_runs.proofs.TableColumns.{some_columns}
+use Rattle.file_model.proofs.ParamColumns.{some_columns}
 use Rattle.whole_runs.proofs.Probes.{some_probe}
+use Rattle.whole_runs.specs.Outcomes.{NamesFile}
 
 module _ (m : ℕ) (columns : ColumnList) (table : IsTable m columns) where
   -- something is done with any reduced rows
@@ -66,15 +68,17 @@ some_over_table params fits done goes =
     let (work, is) = some_over_rows params.modulus columns of.table done (goes columns of.table) in
     (work, record { columns = columns; are_columns = of; by_rows = is })
 
-pub some_work : (asked : Asked) → IfOk asked IsInRange → (work : Work) × IsWork asked work
-some_work (Err Usage) fits = (Writes usage_line status.Usage, refl)
-some_work (Err (Param fault)) fits = (Writes (param_line fault) status.Params, refl)
-some_work (Err (Count n)) fits = (Writes (count_line n) status.Params, refl)
-some_work (Err (Terms n)) fits = (Writes (terms_line n) status.Params, refl)
-some_work (Ok (Dual m)) fits = (Replies (reply_of m), refl)
-some_work (Ok (ListOf w d)) fits = (Writes (name_lines 0 (listing_of w d)) status.Done, refl)
-some_work (Ok (Reduce params)) fits =
+pub some_work : (asked : Asked) (contents : Option (List ℕ)) → IfOk asked IsInRange → ¬ (NamesFile asked)
+    → (work : Work) × IsWork asked contents work
+some_work (Err Usage) contents fits none = (Writes usage_line status.Usage, refl)
+some_work (Err (Param fault)) contents fits none = (Writes (param_line fault) status.Params, refl)
+some_work (Err (Count n)) contents fits none = (Writes (count_line n) status.Params, refl)
+some_work (Err (Terms n)) contents fits none = (Writes (terms_line n) status.Params, refl)
+some_work (Ok (Dual m)) contents fits none = (Replies (reply_of m), refl)
+some_work (Ok (ListOf w d)) contents fits none = (Writes (name_lines 0 (listing_of w d)) status.Done, refl)
+some_work (Ok (Reduce params)) contents fits none =
     some_over_table params fits (RepliesBy params.modulus) (λ columns table. some_replies params.modulus columns table)
-some_work (Ok (Sample params seed number)) fits =
+some_work (Ok (Sample params seed number)) contents fits none =
     some_over_table params fits.0 (CountsBy params.modulus seed number) (λ columns table. some_count params.modulus columns table seed number)
-some_work (Ok (Probe n m)) fits = let from = fits.2 in some_probe n m (omega arith)
+some_work (Ok (Probe n m)) contents fits none = let from = fits.2 in some_probe n m (omega arith)
+some_work (Ok Show) contents fits none = absurd (none tt)

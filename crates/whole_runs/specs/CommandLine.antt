@@ -9,7 +9,7 @@ use Rattle.page_codec.specs.declared.fault.ParamFault.TheVariants.{Weight, Depth
 use Rattle.page_codec.specs.Bounds.{IsParams}
 use Rattle.page_codec.specs.Tests.{Passes, Refuses}
 use Rattle.whole_runs.specs.declared.command.Command.{Command}
-use Rattle.whole_runs.specs.declared.command.Command.TheVariants.{Dual, List as ListOf, Reduce, Sample, Probe}
+use Rattle.whole_runs.specs.declared.command.Command.TheVariants.{Dual, List as ListOf, Reduce, Sample, Probe, Show}
 use Rattle.whole_runs.specs.declared.command.WordsFault.{WordsFault}
 use Rattle.whole_runs.specs.declared.command.WordsFault.TheVariants.{Usage, Param, Count, Terms}
 
@@ -33,6 +33,7 @@ pub data Request : Type 0 where
   ForReduce : ℕ → ℕ → ℕ → List ℕ → Option (List ℕ) → Request
   ForSample : ℕ → ℕ → ℕ → ℕ → ℕ → Request
   ForProbe : ℕ → ℕ → Request
+  ForShow : Request
 
 abbrev pub dual_request : Option ℕ → Option Request
 dual_request None = None
@@ -62,6 +63,12 @@ sample_request (Some w) (Some d) (Some m) None count = None
 sample_request (Some w) (Some d) (Some m) (Some seed) None = None
 sample_request (Some w) (Some d) (Some m) (Some seed) (Some count) = Some (ForSample w d m seed count)
 
+-- `dual M`, and `show FILE` with any word for FILE
+abbrev pub one_word : List ℕ → List ℕ → Option Request
+one_word name word =
+    if bytes_eq name (codes "dual") then dual_request (number_word word)
+    else if bytes_eq name (codes "show") then Some ForShow else None
+
 -- `list W D` and `probe N M`
 abbrev pub two_numbers : List ℕ → Option ℕ → Option ℕ → Option Request
 two_numbers name a b = if bytes_eq name (codes "list") then list_request a b else if bytes_eq name (codes "probe") then probe_request a b else None
@@ -76,7 +83,7 @@ five_words name w d m fourth fifth =
 abbrev pub request_of : List (List ℕ) → Option Request
 request_of [] = None
 request_of (name ∷ []) = None
-request_of (name ∷ m ∷ []) = if bytes_eq name (codes "dual") then dual_request (number_word m) else None
+request_of (name ∷ word ∷ []) = one_word name word
 request_of (name ∷ a ∷ b ∷ []) = two_numbers name (number_word a) (number_word b)
 request_of (name ∷ a ∷ b ∷ c ∷ []) = None
 request_of (name ∷ w ∷ d ∷ m ∷ order ∷ []) =
@@ -123,6 +130,7 @@ AsksFor (ForReduce w d m order preferred) asked = (tested : Result Params ParamF
 AsksFor (ForSample w d m seed count) asked =
     (tested : Result Params ParamFault) × IsTested w d m (codes "lex") None tested × (asked ≡ asked_sample seed count tested)
 AsksFor (ForProbe n m) asked = asked ≡ asked_probe n m
+AsksFor ForShow asked = asked ≡ Ok Show
 
 abbrev pub AsksForIt : Option Request → Asked → Type 0
 AsksForIt None asked = asked ≡ Err Usage
@@ -139,3 +147,4 @@ IsInRange (ListOf w d) = HasLimits w d
 IsInRange (Reduce params) = IsParams params
 IsInRange (Sample params seed count) = IsParams params × (count ≤ 100000)
 IsInRange (Probe n m) = (1 ≤ n) × (n ≤ 10000) × (3 ≤ m) × (m < 2 ^ 63)
+IsInRange Show = Unit {0}

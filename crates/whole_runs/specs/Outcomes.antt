@@ -1,16 +1,19 @@
 -- What any run has of the whole one.
-use Rattle.std.specs.Prelude.{◌≡◌, ◌⊎◌, ℕ, List, Option, Ok, Err}
+use Rattle.std.specs.Prelude.{◌≡◌, ◌⊎◌, ℕ, List, Option, IsSome, Ok, Err}
+use Rattle.std.specs.Option.{option_map}
+use Rattle.outside_io.specs.Traces.{Trace}
 use Rattle.outside_io.specs.Told.{before_told, after_told, AppendsFront}
 use Rattle.line_loop.specs.Lines.{whole_output, input_limit}
 use Rattle.line_loop.specs.Talk.{Tells}
 use Rattle.page_codec.specs.declared.params.Params.{Params}
 use Rattle.table_rewrite.specs.Telling.{TellsClasses}
-use Rattle.whole_runs.specs.declared.command.Command.TheVariants.{Dual, List as ListOf, Reduce, Sample, Probe}
+use Rattle.whole_runs.specs.declared.command.Command.TheVariants.{Dual, List as ListOf, Reduce, Sample, Probe, Show}
 use Rattle.whole_runs.specs.declared.command.WordsFault.TheVariants.{Usage, Param, Count, Terms}
 use Rattle.whole_runs.specs.declared.status.Status.{Status}
 use Rattle.whole_runs.specs.Statuses.{BreaksOff}
 use Rattle.whole_runs.specs.CommandLine.{Asked}
-use Rattle.whole_runs.specs.Works.{Work, output_of, status_of, replies_of, IsWork}
+use Rattle.whole_runs.specs.Works.{Work, output_of, status_of, replies_of}
+use Rattle.whole_runs.specs.Wanted.{IsWork}
 
 -- a parameter test fails
 abbrev pub FailsTest : Asked → Type 0
@@ -27,11 +30,26 @@ AsksForReplies (Ok (ListOf w d)) = ⊥
 AsksForReplies (Ok (Reduce params)) = Unit {0}
 AsksForReplies (Ok (Sample params seed count)) = ⊥
 AsksForReplies (Ok (Probe n m)) = Unit {0}
+AsksForReplies (Ok Show) = ⊥
 AsksForReplies (Err fault) = ⊥
 
--- it is lent a file: no command is yet
+-- the command is done with a file, which its second word names
 abbrev pub NamesFile : Asked → Type 0
-NamesFile asked = ⊥
+NamesFile (Ok (Dual m)) = ⊥
+NamesFile (Ok (ListOf w d)) = ⊥
+NamesFile (Ok (Reduce params)) = ⊥
+NamesFile (Ok (Sample params seed count)) = ⊥
+NamesFile (Ok (Probe n m)) = ⊥
+NamesFile (Ok Show) = Unit {0}
+NamesFile (Err fault) = ⊥
+
+-- what a read of the disk gives, where it tells
+abbrev pub contents_of : Option Trace → Option (List ℕ)
+contents_of told = option_map (λ t. t.now.contents) told
+
+-- the disk tells its contents, where they are asked for
+abbrev pub IsTold : Asked → Option (List ℕ) → Type 0
+IsTold asked contents = NamesFile asked → IsSome contents
 
 -- what a run has of one work: the input is what the source tells, where it tells
 pub record Has (work : Work) (left taken taken_new : Option (List ℕ)) (result : Status) : Type 0 where
@@ -40,13 +58,14 @@ pub record Has (work : Work) (left taken taken_new : Option (List ℕ)) (result 
   pub front : AppendsFront taken taken_new (output_of work input)
   pub whole : BreaksOff result ⊎ ((taken_new ≡ after_told taken (output_of work input)) × (result ≡ status_of work input))
 
--- a run of what was asked for: what was written is a first part of the whole run's output; unless want of memory or a fault broke the
--- run off, it is all of it, and the status is the whole run's
-pub record Outcome (asked : Asked) (left taken taken_new : Option (List ℕ)) (result : Status) : Type 0 where
+-- a run of what was asked for, over what the disk tells: what was written is a first part of the whole run's output; unless want of memory or a
+-- fault broke the run off, it is all of it, and the status is the whole run's
+pub record Outcome (asked : Asked) (contents left taken taken_new : Option (List ℕ)) (result : Status) : Type 0 where
   pub input : List ℕ
   pub told : Tells left input
-  pub front : (work : Work) → IsWork asked work → AppendsFront taken taken_new (output_of work input)
-  pub whole : BreaksOff result ⊎ ((work : Work) × IsWork asked work × (taken_new ≡ after_told taken (output_of work input)) × (result ≡ status_of work input))
+  pub front : (work : Work) → IsWork asked contents work → AppendsFront taken taken_new (output_of work input)
+  pub whole : IsTold asked contents
+      → BreaksOff result ⊎ ((work : Work) × IsWork asked contents work × (taken_new ≡ after_told taken (output_of work input)) × (result ≡ status_of work input))
 
 -- the replies that were written are those to the lines that are whole in the bytes that were read
 pub record AnswersSeen (work : Work) (left left_new taken taken_new : Option (List ℕ)) : Type 0 where

@@ -1,28 +1,24 @@
--- What is to be done for what the words ask for: a relation, since the rows of a table are those that its definition names, whichever they are.
-use Rattle.std.specs.Prelude.{◌≡◌, ℕ, ◌<◌, ◌≤◌, List, [], length, map, Ok, Err, nat_lt, if◌then◌else◌}
+-- What may be to be done, and what is to be done over a table that is made in memory: a relation, since the rows of a table are those that its
+-- definition names, whichever they are.
+use Rattle.std.specs.Prelude.{◌≡◌, ℕ, ◌<◌, ◌≤◌, List, [], length, map, nat_lt, if◌then◌else◌}
 use Rattle.zeta_model.specs.declared.Letter.{Letter}
 use Rattle.zeta_model.specs.Inverses.{HasInverse}
 use Rattle.zeta_model.specs.WordLists.{admissible_within}
 use Rattle.line_loop.specs.Lines.{whole_output, input_limit, cut, answers}
-use Rattle.dual_reply.specs.Reply.{reply_of}
-use Rattle.relation_list.specs.Listings.{listing_of}
 use Rattle.column_order.specs.Columns.{ColumnList}
 use Rattle.page_codec.specs.declared.params.Params.{Params}
-use Rattle.page_codec.specs.Tests.{mode_of}
-use Rattle.table_model.specs.Conversion.{IsTable, Converts}
+use Rattle.table_model.specs.Conversion.{Converts}
 use Rattle.table_model.specs.ListedSpan.{values_of, count_of}
 use Rattle.table_model.specs.ReducedRows.{IsReducedRows, IsUnbroken, BreaksFirst}
 use Rattle.table_model.specs.Faults.{IsNotInvertible}
+use Rattle.file_model.specs.TableOf.{IsTableOf}
 use Rattle.table_rewrite.specs.Replies.{AreReplies}
 use Rattle.line_samples.specs.Samples.{sample_lines}
 use Rattle.truncated_sums.specs.Inverses.{IsFirstWithout}
 use Rattle.probe_replies.specs.Replies.{AreProbeReplies}
-use Rattle.whole_runs.specs.declared.command.Command.TheVariants.{Dual, List as ListOf, Reduce, Sample, Probe}
-use Rattle.whole_runs.specs.declared.command.WordsFault.TheVariants.{Usage, Param, Count, Terms}
 use Rattle.whole_runs.specs.declared.status.Status.{Status}
 use Rattle.whole_runs.specs.declared.status.Status.TheVariants as status
-use Rattle.whole_runs.specs.CommandLine.{Asked, Asks}
-use Rattle.whole_runs.specs.Texts.{usage_line, param_line, count_line, terms_line, name_lines, word_line, relation_line, term_line, sample_line}
+use Rattle.whole_runs.specs.Texts.{word_line, relation_line, term_line, sample_line}
 
 -- each line of the source gets its reply, or these bytes are written and the run ends so
 pub data Work : Type 0 where
@@ -48,14 +44,6 @@ replies_of (Writes bytes end) seen = []
 abbrev pub ReadsLines : Work → Type 0
 ReadsLines (Replies reply) = Unit {0}
 ReadsLines (Writes bytes end) = ⊥
-
--- the columns of parameters
-pub record IsTableOf (params : Params) (columns : ColumnList) : Type 0 where
-  pub table : IsTable params.modulus columns
-  pub weight : columns.weight ≡ params.weight
-  pub depth : columns.depth ≡ params.depth
-  pub mode : columns.preference.mode ≡ mode_of params.order
-  pub words : columns.preference.words ≡ params.preferred
 
 -- what is done with the columns of a table and its reduced rows: their number, their leads and themselves
 abbrev pub ByRows : Type 1
@@ -93,21 +81,3 @@ pub record CountsBy (m seed number : ℕ) (columns : ColumnList) (count : ℕ) (
 pub data IsProbe (n m : ℕ) (work : Work) : Type 0 where
   no_inverse : (value term : ℕ) → IsFirstWithout m n value term → work ≡ Writes (term_line value term) status.NoInverse → IsProbe n m work
   whole : ((a : ℕ) → 1 ≤ a → a ≤ n → HasInverse m a) → (reply : List ℕ → List ℕ) → AreProbeReplies m n reply → work ≡ Replies reply → IsProbe n m work
-
--- what is to be done for each command, and for words that ask for none
-abbrev pub IsWork : Asked → Work → Type 0
-IsWork (Err Usage) work = work ≡ Writes usage_line status.Usage
-IsWork (Err (Param fault)) work = work ≡ Writes (param_line fault) status.Params
-IsWork (Err (Count n)) work = work ≡ Writes (count_line n) status.Params
-IsWork (Err (Terms n)) work = work ≡ Writes (terms_line n) status.Params
-IsWork (Ok (Dual m)) work = work ≡ Replies (reply_of m)
-IsWork (Ok (ListOf w d)) work = work ≡ Writes (name_lines 0 (listing_of w d)) status.Done
-IsWork (Ok (Reduce params)) work = IsOverTable params (RepliesBy params.modulus) work
-IsWork (Ok (Sample params seed number)) work = IsOverTable params (CountsBy params.modulus seed number) work
-IsWork (Ok (Probe n m)) work = IsProbe n m work
-
--- what is to be done for the words of a command line
-pub record Wants (words : List (List ℕ)) (work : Work) : Type 0 where
-  pub asked : Asked
-  pub asks : Asks words asked
-  pub is_work : IsWork asked work

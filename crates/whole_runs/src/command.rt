@@ -31,6 +31,8 @@ pub enum Command {
         terms: u32,
         modulus: u64,
     },
+    /// To print the header of the table in a file, how many pages it has, and its sealed final rows.
+    Show,
 }
 
 /// Why the words ask for nothing.

@@ -2,7 +2,7 @@
 ghost use Rattle.std.specs.Prelude.{◌≡◌, ◌==◌, Option, None, map, string_bytes, slice_index, codes, bytes_eq, if◌then◌else◌, IfOk};
 ghost use Rattle.std.specs.Option.{option_map};
 ghost use Rattle.whole_runs.specs.CommandLine.{Asks, AsksForIt, IsInRange, number_word};
-ghost use Rattle.whole_runs.specs.CommandLine.{dual_request, list_request, probe_request, reduce_request, sample_request, two_numbers, five_words};
+ghost use Rattle.whole_runs.specs.CommandLine.{dual_request, list_request, probe_request, reduce_request, sample_request, one_word, two_numbers, five_words};
 
 use crate::command::{Command, WordsFault};
 use crate::requests::{asked_dual, asked_listing, asked_probe, asked_reduce, asked_sample};
@@ -110,12 +110,15 @@ fn sample_command(
     asked_sample(weight, depth, modulus, seed, count)
 }
 
-fn one_number(name: &str, number: Option<u64>) -> Result<Command, WordsFault>
-    ensures asked { AsksForIt (if bytes_eq name.now (codes "dual") then dual_request number else None) result }
+fn one_word(name: &str, word: &str) -> Result<Command, WordsFault>
+    ensures asked { AsksForIt (one_word name.now word.now) result }
     ensures in_range { IfOk result IsInRange }
 {
     if name.as_bytes() == b"dual".as_slice() {
-        return dual_command(number);
+        return dual_command(number_word(word));
+    }
+    if name.as_bytes() == b"show".as_slice() {
+        return Ok(Command::Show);
     }
     Err(WordsFault::Usage)
 }
@@ -184,7 +187,7 @@ pub fn read_words(words: &[String]) -> Result<Command, WordsFault>
     ensures in_range { IfOk result IsInRange }
 {
     match words {
-        [name, number] => one_number(name.as_str(), number_word(number.as_str())),
+        [name, word] => one_word(name.as_str(), word.as_str()),
         [name, first, second] => two_numbers(
             name.as_str(),
             number_word(first.as_str()),

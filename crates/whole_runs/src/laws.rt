@@ -5,17 +5,19 @@ ghost use Rattle.page_codec.specs.Bounds.{IsParams};
 ghost use Rattle.whole_runs.specs.declared.command.Command.TheVariants.{Reduce};
 ghost use Rattle.whole_runs.specs.declared.status.Status.TheVariants as status;
 ghost use Rattle.whole_runs.specs.CommandLine.{Asked, Asks, IsInRange};
-ghost use Rattle.whole_runs.specs.Works.{Work, IsWork};
-ghost use Rattle.whole_runs.specs.Outcomes.{Outcome, RepliesTell};
+ghost use Rattle.whole_runs.specs.Works.{Work};
+ghost use Rattle.whole_runs.specs.Wanted.{IsWork};
+ghost use Rattle.whole_runs.specs.Outcomes.{Outcome, RepliesTell, NamesFile};
 
 /// Words ask for one thing, and for what is asked there is one work.
 ///
-/// What is asked in range has a work. Where `reduce` ends with status 0, each line of the source got its reply, and two accepted lines got
+/// What is asked in range has a work, where it names no file; where it names one, a run that is not broken off finds it. Where `reduce` ends with status 0, each line of the source got its reply, and two accepted lines got
 /// the same one exactly where the difference of their sums is in the span of the listed relations of the parameters.
 pub fn whole_run_laws()
     ensures one_ask { (words : List (List ℕ)) (a b : Asked) → Asks words a → Asks words b → a ≡ b }
-    ensures one_work { (asked : Asked) (v w : Work) → IsWork asked v → IsWork asked w → v ≡ w }
-    ensures some_work { (asked : Asked) → IfOk asked IsInRange → (work : Work) × IsWork asked work }
-    ensures reduce { (params : Params) (left taken taken_new : Option (List ℕ)) → IsParams params
-        → Outcome (Ok (Reduce params)) left taken taken_new status.Done → RepliesTell params left taken taken_new }
+    ensures one_work { (asked : Asked) (contents : Option (List ℕ)) (v w : Work) → IsWork asked contents v → IsWork asked contents w → v ≡ w }
+    ensures some_work { (asked : Asked) (contents : Option (List ℕ)) → IfOk asked IsInRange → ¬ (NamesFile asked)
+        → (work : Work) × IsWork asked contents work }
+    ensures reduce { (params : Params) (contents left taken taken_new : Option (List ℕ)) → IsParams params
+        → Outcome (Ok (Reduce params)) contents left taken taken_new status.Done → RepliesTell params left taken taken_new }
 {}

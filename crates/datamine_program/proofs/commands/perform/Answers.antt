@@ -1,25 +1,54 @@
-use Rattle.std.proofs.Common.{Ok, inl, inr, refl, subst}
+use Rattle.std.proofs.Common.{Ok, None, inl, inr, refl, subst}
 use Rattle.dual_reply.specs.Reply.{reply_of}
-use Rattle.whole_runs.specs.declared.command.Command.TheVariants.{Dual, List as ListOf, Sample}
-use Rattle.whole_runs.specs.Works.{IsWork}
-use Rattle.datamine_program.proofs.Runs.{written_run, reads_lines}
+use Rattle.whole_runs.specs.declared.command.Command.TheVariants.{Dual, List as ListOf, Sample, Show}
+use Rattle.whole_runs.specs.Outcomes.{contents_of}
+use Rattle.whole_runs.specs.Wanted.{IsWork}
+use Rattle.datamine_program.proofs.Runs.{written_run, file_run, reads_lines}
 use Rattle.datamine_program.proofs.commands.perform.Goals as goal
+
+pub returns-in-Dual-clause-run : goal.returns-in-Dual-clause-run
+returns-in-Dual-clause-run g c = rw c.in-Dual.is (c.run_dual.ensures.run (contents_of (g.D.Disk.trace c.args.disk.now)))
+
+pub returns-in-Reduce-clause-run : goal.returns-in-Reduce-clause-run
+returns-in-Reduce-clause-run g c = rw c.in-Reduce.is (c.run_reduce.ensures.run (contents_of (g.D.Disk.trace c.args.disk.now)))
+
+pub returns-in-Probe-clause-run : goal.returns-in-Probe-clause-run
+returns-in-Probe-clause-run g c = rw c.in-Probe.is (c.run_probe.ensures.run (contents_of (g.D.Disk.trace c.args.disk.now)))
 
 pub returns-in-List-clause-run : goal.returns-in-List-clause-run
 returns-in-List-clause-run g c = rw c.in-List.is
-    (written_run (Ok (ListOf c.in-List.weight c.in-List.depth)) _ _ _ _ (c.run_list.ensures.outcome _)
+    (written_run (Ok (ListOf c.in-List.weight c.in-List.depth)) _ _ _ _ _ (c.run_list.ensures.outcome (contents_of (g.D.Disk.trace c.args.disk.now)) _)
     (elim c.run_list.ensures.which [ inl e ↦ inl e | inr e ↦ inr (inr e) ]) (λ a. a))
 
 pub returns-in-Sample-clause-run : goal.returns-in-Sample-clause-run
 returns-in-Sample-clause-run g c = rw c.in-Sample.is
-    (written_run (Ok (Sample c.in-Sample.params c.in-Sample.seed c.in-Sample.count)) _ _ _ _ (c.run_sample.ensures.outcome _)
-    c.run_sample.ensures.which (λ a. a))
+    (written_run (Ok (Sample c.in-Sample.params c.in-Sample.seed c.in-Sample.count)) _ _ _ _ _
+    (c.run_sample.ensures.outcome (contents_of (g.D.Disk.trace c.args.disk.now)) _) c.run_sample.ensures.which (λ a. a))
+
+pub returns-in-Show-clause-run : goal.returns-in-Show-clause-run
+returns-in-Show-clause-run g c = rw c.in-Show.is (file_run (Ok Show) _ _ _ _ _ (c.run_show.ensures.outcome _) c.run_show.ensures.which tt (λ a. a))
+
+pub returns-in-Dual-clause-disk_fault_only : goal.returns-in-Dual-clause-disk_fault_only
+returns-in-Dual-clause-disk_fault_only g c = λ e. let run = c.run_dual.ensures.run None in absurd (run.disk_fault e)
+
+pub returns-in-Reduce-clause-disk_fault_only : goal.returns-in-Reduce-clause-disk_fault_only
+returns-in-Reduce-clause-disk_fault_only g c = λ e. let run = c.run_reduce.ensures.run None in absurd (run.disk_fault e)
+
+pub returns-in-Probe-clause-disk_fault_only : goal.returns-in-Probe-clause-disk_fault_only
+returns-in-Probe-clause-disk_fault_only g c = λ e. let run = c.run_probe.ensures.run None in absurd (run.disk_fault e)
 
 pub returns-in-Dual-clause-source : goal.returns-in-Dual-clause-source
 returns-in-Dual-clause-source g c = λ work is quiet.
     let m = c.in-Dual.modulus in
-    absurd (quiet (reads_lines (Ok (Dual m)) (reply_of m) refl work (subst (λ command. IsWork (Ok command) work) c.in-Dual.is is)))
+    let contents = contents_of (g.D.Disk.trace c.args.disk.now) in
+    absurd (quiet (reads_lines (Ok (Dual m)) contents (reply_of m) refl work (subst (λ command. IsWork (Ok command) contents work) c.in-Dual.is is)))
+
+pub returns-in-Reduce-clause-source : goal.returns-in-Reduce-clause-source
+returns-in-Reduce-clause-source g c = λ work is quiet.
+    let contents = contents_of (g.D.Disk.trace c.args.disk.now) in
+    c.run_reduce.ensures.source contents work (subst (λ command. IsWork (Ok command) contents work) c.in-Reduce.is is) quiet
 
 pub returns-in-Probe-clause-source : goal.returns-in-Probe-clause-source
 returns-in-Probe-clause-source g c = λ work is quiet.
-    c.run_probe.ensures.source work (subst (λ command. IsWork (Ok command) work) c.in-Probe.is is) quiet
+    let contents = contents_of (g.D.Disk.trace c.args.disk.now) in
+    c.run_probe.ensures.source contents work (subst (λ command. IsWork (Ok command) contents work) c.in-Probe.is is) quiet

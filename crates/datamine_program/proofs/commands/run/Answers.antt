@@ -1,6 +1,6 @@
 use Rattle.std.proofs.Common.{Ok, Err, map, string_bytes, subst}
 use Rattle.whole_runs.specs.CommandLine.{Asks}
-use Rattle.whole_runs.specs.Outcomes.{Outcome, AnswersSeen, AsksForReplies}
+use Rattle.whole_runs.specs.Outcomes.{Outcome, AnswersSeen, AsksForReplies, NamesFile}
 use Rattle.whole_runs.specs.Works.{ReadsLines}
 use Rattle.whole_runs.proofs.Outcomes.{each_asked}
 use Rattle.datamine_program.proofs.Asking.{each_wanted, not_usage, passes, dual_tells, table_tells, same_fault, fails, no_dual, no_reduce}
@@ -18,7 +18,8 @@ returns-in-Ok-clause-params g c =
     (λ e. absurd (c.perform.ensures.run.params e), λ f. absurd (passes words c.in-Ok.command c.in-Ok.ensures.asked f))
 
 pub returns-in-Ok-clause-disk_fault_only : goal.returns-in-Ok-clause-disk_fault_only
-returns-in-Ok-clause-disk_fault_only g c = λ e. absurd (c.perform.ensures.run.disk_fault e)
+returns-in-Ok-clause-disk_fault_only g c =
+    λ e. (Ok c.in-Ok.command, c.in-Ok.ensures.asked, c.perform.ensures.run.disk_fault e, c.perform.ensures.disk_fault_only e)
 
 pub returns-in-Ok-clause-read_fault_only : goal.returns-in-Ok-clause-read_fault_only
 returns-in-Ok-clause-read_fault_only g c =
@@ -27,7 +28,7 @@ returns-in-Ok-clause-read_fault_only g c =
 pub returns-in-Ok-clause-outcome : goal.returns-in-Ok-clause-outcome
 returns-in-Ok-clause-outcome g c =
     let words = map string_bytes c.args.words.now in
-    each_asked words (Ok c.in-Ok.command) (λ a. Outcome a _ _ _ _) c.in-Ok.ensures.asked c.perform.ensures.run.outcome
+    each_asked words (Ok c.in-Ok.command) (λ a. Outcome a _ _ _ _ _) c.in-Ok.ensures.asked c.perform.ensures.run.outcome
 
 pub returns-in-Ok-clause-done : goal.returns-in-Ok-clause-done
 returns-in-Ok-clause-done g c =
@@ -37,12 +38,12 @@ returns-in-Ok-clause-done g c =
 pub returns-in-Ok-clause-answered : goal.returns-in-Ok-clause-answered
 returns-in-Ok-clause-answered g c =
     let words = map string_bytes c.args.words.now in
-    λ e. each_wanted words (Ok c.in-Ok.command) (λ work. AnswersSeen work _ _ _ _) c.in-Ok.ensures.asked (c.perform.ensures.run.answered e)
+    λ e. each_wanted words _ (Ok c.in-Ok.command) (λ work. AnswersSeen work _ _ _ _) c.in-Ok.ensures.asked (c.perform.ensures.run.answered e)
 
 pub returns-in-Ok-clause-source : goal.returns-in-Ok-clause-source
 returns-in-Ok-clause-source g c =
     let words = map string_bytes c.args.words.now in
-    each_wanted words (Ok c.in-Ok.command) (λ work. ¬ (ReadsLines work) → _) c.in-Ok.ensures.asked c.perform.ensures.source
+    each_wanted words _ (Ok c.in-Ok.command) (λ work. ¬ (ReadsLines work) → _) c.in-Ok.ensures.asked c.perform.ensures.source
 
 pub returns-in-Ok-clause-takes : goal.returns-in-Ok-clause-takes
 returns-in-Ok-clause-takes g c = c.perform.ensures.run.takes
@@ -53,7 +54,7 @@ returns-in-Ok-clause-replies g c =
 
 pub returns-in-Ok-clause-reduce : goal.returns-in-Ok-clause-reduce
 returns-in-Ok-clause-reduce g c =
-    table_tells (map string_bytes c.args.words.now) c.in-Ok.command c.in-Ok.ensures.asked c.in-Ok.ensures.in_range _ _ _ _ c.perform.ensures.run.outcome
+    table_tells (map string_bytes c.args.words.now) c.in-Ok.command c.in-Ok.ensures.asked c.in-Ok.ensures.in_range _ _ _ _ _ c.perform.ensures.run.outcome
 
 pub returns-in-Err-clause-usage : goal.returns-in-Err-clause-usage
 returns-in-Err-clause-usage g c =
@@ -72,7 +73,7 @@ returns-in-Err-clause-params g c =
 pub returns-in-Err-clause-outcome : goal.returns-in-Err-clause-outcome
 returns-in-Err-clause-outcome g c =
     let words = map string_bytes c.args.words.now in
-    each_asked words (Err c.in-Err.fault) (λ a. Outcome a _ _ _ _) c.in-Err.ensures.asked (c.refuse.ensures.outcome _)
+    each_asked words (Err c.in-Err.fault) (λ a. Outcome a _ _ _ _ _) c.in-Err.ensures.asked (c.refuse.ensures.outcome _ _)
 
 pub returns-in-Err-clause-takes : goal.returns-in-Err-clause-takes
 returns-in-Err-clause-takes g c = takes_none _
@@ -84,3 +85,15 @@ returns-in-Err-clause-replies g c =
 pub returns-in-Err-clause-reduce : goal.returns-in-Err-clause-reduce
 returns-in-Err-clause-reduce g c =
     λ params is e. absurd (no_reduce (map string_bytes c.args.words.now) c.in-Err.fault c.in-Err.ensures.asked params is)
+
+pub returns-in-Ok-clause-no_lines : goal.returns-in-Ok-clause-no_lines
+returns-in-Ok-clause-no_lines g c =
+    let words = map string_bytes c.args.words.now in
+    λ asked is quiet.
+    c.perform.ensures.no_lines (λ a. quiet (each_asked words (Ok c.in-Ok.command) (λ b. AsksForReplies b) c.in-Ok.ensures.asked a asked is))
+
+pub returns-in-Ok-clause-disk : goal.returns-in-Ok-clause-disk
+returns-in-Ok-clause-disk g c =
+    let words = map string_bytes c.args.words.now in
+    λ asked is plain.
+    c.perform.ensures.disk (λ a. plain (each_asked words (Ok c.in-Ok.command) (λ b. NamesFile b) c.in-Ok.ensures.asked a asked is))

@@ -6,9 +6,9 @@ use Rattle.whole_runs.proofs.Outcomes.{outcome_of, broken_off}
 use Rattle.datamine_program.proofs.list.run_list.Goals as goal
 
 pub returns-in_default-clause-outcome : goal.returns-in_default-clause-outcome
-returns-in_default-clause-outcome g c = λ left. broken_off (Ok (ListOf c.args.weight c.args.depth)) left _ status.Memory (inl refl)
+returns-in_default-clause-outcome g c = λ contents left. broken_off (Ok (ListOf c.args.weight c.args.depth)) contents left _ status.Memory (inl refl)
 
 pub returns-clause-outcome : goal.returns-clause-outcome
-returns-clause-outcome g c = λ left.
-    outcome_of (Ok (ListOf c.args.weight c.args.depth)) (Writes c.as_bytes.result.now status.Done) left _ _ _
+returns-clause-outcome g c = λ contents left.
+    outcome_of (Ok (ListOf c.args.weight c.args.depth)) contents (Writes c.as_bytes.result.now status.Done) left _ _ _
     (ap (λ (bytes : List ℕ). Writes bytes status.Done) (c.as_bytes.ensures.value ∙ c.in-Ok.ensures)) (c.write_and_end.ensures.has left)

@@ -8,20 +8,20 @@ use Rattle.datamine_program.proofs.refusals.refuse.Goals as goal
 
 pub returns-in-Usage-clause-outcome : goal.returns-in-Usage-clause-outcome
 returns-in-Usage-clause-outcome g c =
-    rw c.in-Usage.is (λ left. outcome_of (Err Usage) (Writes usage_line status.Usage) left _ _ _ refl (c.refuse_words.ensures.has left))
+    rw c.in-Usage.is (λ contents left. outcome_of (Err Usage) contents (Writes usage_line status.Usage) left _ _ _ refl (c.refuse_words.ensures.has left))
 
 pub returns-in-Param-clause-outcome : goal.returns-in-Param-clause-outcome
 returns-in-Param-clause-outcome g c =
     let fault = c.in-Param.fault in
-    rw c.in-Param.is (λ left. outcome_of (Err (Param fault)) (Writes (param_line fault) status.Params) left _ _ _ refl (c.refuse_param.ensures.has left))
+    rw c.in-Param.is (λ contents left. outcome_of (Err (Param fault)) contents (Writes (param_line fault) status.Params) left _ _ _ refl (c.refuse_param.ensures.has left))
 
 pub returns-in-Count-clause-outcome : goal.returns-in-Count-clause-outcome
 returns-in-Count-clause-outcome g c =
     let count = c.in-Count.count in
-    rw c.in-Count.is (λ left. outcome_of (Err (Count count)) (Writes (count_line count) status.Params) left _ _ _ refl (c.refuse_number.ensures.has left))
+    rw c.in-Count.is (λ contents left. outcome_of (Err (Count count)) contents (Writes (count_line count) status.Params) left _ _ _ refl (c.refuse_number.ensures.has left))
 
 pub returns-in-Terms-clause-outcome : goal.returns-in-Terms-clause-outcome
 returns-in-Terms-clause-outcome g c =
     let terms = c.in-Terms.terms in
     rw c.in-Terms.is
-    (λ left. outcome_of (Err (Terms terms)) (Writes (terms_line terms) status.Params) left _ _ _ refl (c.refuse_number-in-Terms.ensures.has left))
+    (λ contents left. outcome_of (Err (Terms terms)) contents (Writes (terms_line terms) status.Params) left _ _ _ refl (c.refuse_number-in-Terms.ensures.has left))

@@ -1,6 +1,6 @@
 use Rattle.std.proofs.Common.{Err, ap, ◌∙◌, arith}
 use Rattle.column_order.specs.declared.ranks.Preference.{Preference}
-use Rattle.whole_runs.proofs.TableColumns.{table_of}
+use Rattle.file_model.proofs.ParamColumns.{table_of}
 use Rattle.datamine_program.proofs.table.columns_of.Goals as goal
 
 pub unreachable-requires : goal.unreachable-requires

@@ -1,7 +1,7 @@
 use Rattle.std.proofs.Common.{Err, length, ap, sym, subst, ◌∙◌}
 use Rattle.echelon.specs.Lists.{lead_at, row_at}
 use Rattle.table_model.specs.Conversion.{Converts}
-use Rattle.whole_runs.specs.Works.{IsTableOf}
+use Rattle.file_model.specs.TableOf.{IsTableOf}
 use Rattle.datamine_program.specs.Inner.{IsFaultOf}
 use Rattle.datamine_program.proofs.Tables.{not_converting, work_broken, table_made}
 use Rattle.datamine_program.proofs.table.table_of.Goals as goal

@@ -1,0 +1,32 @@
+-- What is to be done for what the words ask for.
+use Rattle.std.specs.Prelude.{◌≡◌, ℕ, List, Option, IsSomeAnd, Ok, Err}
+use Rattle.dual_reply.specs.Reply.{reply_of}
+use Rattle.relation_list.specs.Listings.{listing_of}
+use Rattle.whole_runs.specs.declared.command.Command.TheVariants.{Dual, List as ListOf, Reduce, Sample, Probe, Show}
+use Rattle.whole_runs.specs.declared.command.WordsFault.TheVariants.{Usage, Param, Count, Terms}
+use Rattle.whole_runs.specs.declared.status.Status.TheVariants as status
+use Rattle.whole_runs.specs.CommandLine.{Asked, Asks}
+use Rattle.whole_runs.specs.Texts.{usage_line, param_line, count_line, terms_line, name_lines}
+use Rattle.whole_runs.specs.Works.{Work, IsOverTable, RepliesBy, CountsBy, IsProbe}
+use Rattle.whole_runs.specs.Works.Work.{Replies, Writes}
+use Rattle.whole_runs.specs.FileWorks.{IsShow}
+
+-- what is to be done for each command, and for words that ask for none, with the contents of the disk, where it tells them; where it does not,
+-- nothing is said of a command that names a file
+abbrev pub IsWork : Asked → Option (List ℕ) → Work → Type 0
+IsWork (Err Usage) contents work = work ≡ Writes usage_line status.Usage
+IsWork (Err (Param fault)) contents work = work ≡ Writes (param_line fault) status.Params
+IsWork (Err (Count n)) contents work = work ≡ Writes (count_line n) status.Params
+IsWork (Err (Terms n)) contents work = work ≡ Writes (terms_line n) status.Params
+IsWork (Ok (Dual m)) contents work = work ≡ Replies (reply_of m)
+IsWork (Ok (ListOf w d)) contents work = work ≡ Writes (name_lines 0 (listing_of w d)) status.Done
+IsWork (Ok (Reduce params)) contents work = IsOverTable params (RepliesBy params.modulus) work
+IsWork (Ok (Sample params seed number)) contents work = IsOverTable params (CountsBy params.modulus seed number) work
+IsWork (Ok (Probe n m)) contents work = IsProbe n m work
+IsWork (Ok Show) contents work = IsSomeAnd contents (λ bytes. IsShow bytes work)
+
+-- what is to be done for the words of a command line
+pub record Wants (words : List (List ℕ)) (contents : Option (List ℕ)) (work : Work) : Type 0 where
+  pub asked : Asked
+  pub asks : Asks words asked
+  pub is_work : IsWork asked contents work
