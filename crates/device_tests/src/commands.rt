@@ -6,10 +6,21 @@ use std::test::Fail;
 const USAGE: &[u8] =
     b"usage: dual M; list W D; reduce W D M ORDER [PREF]; build FILE W D M ORDER [PREF]; resume FILE W D M ORDER [PREF]; check FILE; rewrite FILE; show FILE; sample W D M SEED COUNT; migrate FILE; rational FILE; probe N M\n";
 
-// A run over some input, of which the listed calls of the source and the sink fail.
+// A run over some input, of which the listed calls of the source and the sink fail. Its file is empty.
 pub(crate) fn conduct(
     alloc: Global,
     words: &[&str],
+    input: Vec<u8>,
+    fails: (&[u64], &[u64]),
+) -> Result<(u8, MemSink), AllocError> {
+    conduct_over(alloc, words, Vec::new(alloc), input, fails)
+}
+
+// The same over a file.
+pub(crate) fn conduct_over(
+    alloc: Global,
+    words: &[&str],
+    file: Vec<u8>,
     input: Vec<u8>,
     fails: (&[u64], &[u64]),
 ) -> Result<(u8, MemSink), AllocError> {
@@ -17,7 +28,7 @@ pub(crate) fn conduct(
     for word in words {
         own.push(String::from_str(alloc, word)?)?;
     }
-    let mut disk = MemDisk::new(alloc, Vec::new(alloc), Vec::new(alloc), None);
+    let mut disk = MemDisk::new(alloc, file, Vec::new(alloc), None);
     let mut source = MemSource::new(input, Vec::from_slice(alloc, fails.0)?);
     let mut sink = MemSink::new(alloc, Vec::from_slice(alloc, fails.1)?);
     let status = run(alloc, &own, &mut disk, &mut source, &mut sink);

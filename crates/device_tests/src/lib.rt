@@ -16,4 +16,6 @@ mod replies;
 #[cfg(test)]
 mod sealing;
 #[cfg(test)]
+mod shown;
+#[cfg(test)]
 mod tables;

@@ -109,6 +109,15 @@ fn a_sum_has_a_row_and_a_strange_word_none(rt: HostRuntime) -> Result<(), Fail> 
 }
 
 #[test]
+fn the_empty_sum_has_the_zero_row(rt: HostRuntime) -> Result<(), Fail> {
+    let columns = columns_of(rt.alloc(), 3, 2)?;
+    let table = LyndonTable::new(rt.alloc(), WordMod::new(5)?, columns)?;
+    let row = table.to_columns(&WordSum::new(rt.alloc()))?;
+    assert!(rt; row.entries().is_empty());
+    Ok(())
+}
+
+#[test]
 fn each_column_comes_back_from_its_words(rt: HostRuntime) -> Result<(), Fail> {
     conversion_is_one_to_one::<WordMod>();
     let columns = columns_of(rt.alloc(), 5, 4)?;

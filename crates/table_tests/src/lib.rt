@@ -4,9 +4,15 @@
 #![tactic(auto)]
 
 #[cfg(test)]
+mod certificates;
+#[cfg(test)]
 mod columns;
 #[cfg(test)]
 mod elimination;
+#[cfg(test)]
+mod fraction_texts;
+#[cfg(test)]
+mod held_rows;
 #[cfg(test)]
 mod made_rows;
 #[cfg(test)]
