@@ -18,8 +18,11 @@ offers() {
     fi
 }
 
-offers "dual list reduce sample probe" mzv ""
+offers "dual list reduce show sample probe" mzv ""
 offers "dual" mzv d
+offers "show sample" mzv s
+offers "mzv.bash" mzv show mz
+offers "" mzv show mzv.bash ""
 offers "reduce" mzv r
 offers "2 20 21 22 23 24" mzv list 2
 offers "2 20 21 22 23 24" mzv sample 2
@@ -43,6 +46,7 @@ describes() {
         _describe() { echo ${(P)2%%:*} }
         _values() { shift; echo $@ }
         _message() { echo $1 }
+        _files() { echo files }
         functions[complete_it]=$(<./_mzv)
         complete_it' zsh "$@")
     if [[ $printed == "$wanted" ]]; then
@@ -54,7 +58,9 @@ describes() {
 }
 
 if command -v zsh >/dev/null 2>&1; then
-    describes "dual list reduce sample probe" mzv ""
+    describes "dual list reduce show sample probe" mzv ""
+    describes "files" mzv show ""
+    describes "" mzv show table ""
     describes "2 3 4 5 6 7 8 9 10 11 12 13 14 15 16 17 18 19 20 21 22 23 24" mzv list ""
     describes "2 3 4 5 6 7 8 9 10 11 12 13 14 15 16 17 18 19 20 21 22 23 24" mzv sample ""
     describes "1 2 3" mzv list 4 ""

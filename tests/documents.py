@@ -58,7 +58,7 @@ def main():
     failed = 0
     with tempfile.TemporaryDirectory() as work:
         os.symlink(mzv, os.path.join(work, "mzv"))
-        environment = dict(os.environ, PATH=work + os.pathsep + os.environ["PATH"])
+        environment = dict(os.environ, PATH=work + os.pathsep + os.environ["PATH"], TMPDIR=work)
         for page, command, lines in commands:
             done = subprocess.run(["bash", "-c", command], cwd=ROOT, env=environment, capture_output=True, text=True, timeout=60)
             if not is_shown(lines, done.stdout):

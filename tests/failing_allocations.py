@@ -14,6 +14,13 @@ import sys
 import tempfile
 
 HERE = os.path.dirname(os.path.abspath(__file__))
+sys.path.insert(0, HERE)
+from oracle.builds import built_pages  # noqa: E402
+from oracle.files import file_of  # noqa: E402
+
+# The files that are there: a table of 4 pages, its first 3 pages, and the table with a bad page.
+TABLE = file_of(built_pages((4, 3, 101, "lex", ()))[0])
+FILES = {"table": TABLE, "stopped": TABLE[:-9], "bad": TABLE[:-8] + b"\0" * 8}
 LINES = b"z(2,1)-z(3)\nz(2,1)+z(3)\n" + b"z(3,1)+z(2)\n" * 3 + b"z(25)\n-z(4)+" + b"+".join(
     b"z(%d,1)" % k for k in range(2, 24)) + b"\n" + b"z(2)-" * 400 + b"z(3)\nz(2,2)"
 CASES = [
@@ -27,6 +34,10 @@ CASES = [
     (["reduce", "3", "2", "100", "odd", "z(2,1)"], b"z(3)\n"),
     (["reduce", "4", "3", "15", "lex"], b"z(4)\n"),
     (["reduce", "4", "3", "100", "lex"], b"z(4)\n"),
+    (["show", "table"], b""),
+    (["show", "stopped"], b""),
+    (["show", "bad"], b""),
+    (["show", "absent"], b""),
     (["sample", "3", "2", "5", "1", "20"], b""),
     (["probe", "20", "101"], b"z(2)*z(2)\n1/2*z(3,1)^2-z(4)\n1/0\nz(2"),
     (["probe", "5", "15"], b"z(2)\n"),
@@ -43,7 +54,7 @@ CASES = [
 
 def run(mzv, words, given, library, at, count_file):
     environment = dict(os.environ, LD_PRELOAD=library, FAIL_AT=str(at), FAIL_COUNT=count_file)
-    done = subprocess.run([mzv] + words, input=given, capture_output=True, env=environment, timeout=60)
+    done = subprocess.run([mzv] + words, input=given, capture_output=True, env=environment, timeout=60, cwd=os.path.dirname(count_file))
     with open(count_file) as told:
         count = int(told.read())
     return done.returncode, done.stdout, done.stderr, count
@@ -56,6 +67,9 @@ def main():
         library = os.path.join(work, "failing.so")
         subprocess.run(["cc", "-O1", "-shared", "-fPIC", "-o", library, os.path.join(HERE, "failing_allocations.c")], check=True)
         count_file = os.path.join(work, "count")
+        for name, contents in FILES.items():
+            with open(os.path.join(work, name), "wb") as file:
+                file.write(contents)
         for words, given in CASES:
             status, output, error, count = run(mzv, words, given, library, 0, count_file)
             assert error == b"", error

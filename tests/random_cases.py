@@ -1,28 +1,29 @@
-"""Random cases, by area: the words of a command line, the bytes of standard input, and what fails."""
+"""Random cases, by area: the words of a command line, the bytes of standard input, those of a file, and what fails."""
 from oracle.command_line import MAX_PREFERRED
 from oracle.lyndon import is_lyndon
 from oracle.program import MAX_INPUT
 from oracle.words import admissible_words, text
-from random_text import Text
+from random_files import Files
 
 NOT_NUMBERS = ("", "x", "-1", "+3", " 3", "3 ", "1.0", "0x5", str(2**64), "9" * 40, "\u0663", "\udcff")
 COMMANDS = ("dual", "list", "reduce", "sample", "probe", "build", "resume", "check", "rewrite", "show", "migrate", "rational", "", "help", "Dual")
-FORMS = {"dual": "M", "list": "WD", "reduce": "WDMO", "sample": "WDMSS", "probe": "DM"}
+FORMS = {"dual": "M", "list": "WD", "reduce": "WDMO", "show": "F", "sample": "WDMSS", "probe": "DM"}
 WRONG_SHAPES = ((25, 1), (4, 4), (14, 13), (0, 0), (2, 0), (24, 5), (1, 1), (5, 2**64 - 1), (2**64 - 1, 2))
 WRONG_LISTS = ("", "+", "z(2)+", "+z(2)", "z()", "z(0)", "z(02)", "z(2) ", "Z(2)", "z(2)+z(2)", "z(3)+z(2)", "z(2,2)", "z(1)", "z(9999)", "z(2)\n", "z(2)\udcff",
                "+".join(["z(2)"] * 17))
 FAULTY = ("dual 101", "dual 2", "list 4 3", "list 9 9", "reduce 4 3 101 lex", "reduce 4 3 15 lex", "reduce 4 3 101 best", "sample 3 2 5 1 2",
           "sample 4 3 100 1 2", "probe 2 101", "probe 5 15", "probe 0 101", "")
+FILE_FAULTS = ("show t", "show none/t", "show t/t", "show .")
 
 
 class Case:
-    """The words, the bytes of standard input, and which of 'source' and 'sink' fails, if any."""
+    """The words, the bytes of standard input, those of the file `t`, if it is there, and which of 'source' and 'sink' fails, if any."""
 
-    def __init__(self, words, given=b"", fails=""):
-        self.words, self.given, self.fails = list(map(str, words)), given, fails
+    def __init__(self, words, given=b"", fails="", contents=None):
+        self.words, self.given, self.fails, self.contents = list(map(str, words)), given, fails, contents
 
 
-class Maker(Text):
+class Maker(Files):
     """Random cases from one generator."""
 
     def shape(self, most=7):
@@ -66,6 +67,9 @@ class Maker(Text):
         line = self.good_line(shape, False)[:400]
         return Case(["reduce", *shape, self.some(101, 1009, 2**61 - 1), self.some("lex", "odd")], b"\n".join(line[:n] for n in range(len(line) + 1)))
 
+    def show(self):
+        return Case(["show", "t"], b"z(2)\n", contents=self.table_file(self.params(7)) if self.chance(0.97) else None)
+
     def sample(self):
         count = self.some(100000, 100001, 2**64 - 1) if self.chance(0.04) else self.below(60)
         words = self.table(self.shape())[:3]
@@ -80,12 +84,14 @@ class Maker(Text):
         name = self.some(*COMMANDS)
         words = [self.some("3", "2", "101", "lex", "t", "z(2)", *NOT_NUMBERS) for _ in range(self.below(7))]
         if name in FORMS and self.chance(0.6):
-            good = {"W": "4", "D": "2", "M": "101", "O": "odd", "S": "3"}
+            good = {"F": "t", "W": "4", "D": "2", "M": "101", "O": "odd", "S": "3"}
             words = [good[kind] if self.chance(0.85) else self.some(*NOT_NUMBERS, "z(2)") for kind in FORMS[name]] + words[:self.some(0, 0, 0, 1, 2)]
         return Case([name] + words if self.chance(0.95) else [], b"z(2)\n")
 
     def fault(self):
-        return Case(self.some(*FAULTY).split(), b"z(2)\n", self.some("source", "sink"))
+        contents = self.table_file(self.params(4), 0.2) if self.chance(0.4) else None
+        words = self.some(*FAULTY, *FILE_FAULTS) if contents is None else self.some(*FILE_FAULTS)
+        return Case(words.split(), b"z(2)\n", self.some("source", "sink", *[""] * (contents is not None)), contents)
 
     def limit(self):
         size, kind = MAX_INPUT + self.some(-1, 0, 1, 70000), self.random.random()
@@ -99,4 +105,4 @@ class Maker(Text):
         return Case(self.some("dual 101", "reduce 3 2 5 lex", "probe 2 101").split(), given)
 
 
-AREAS = ("dual", "list", "reduce", "sample", "probe", "usage", "fault")
+AREAS = ("dual", "list", "reduce", "show", "sample", "probe", "usage", "fault")

@@ -1,40 +1,44 @@
 #!/usr/bin/env python3
-"""Runs `mzv` on random words, lines and faults, and compares each run, byte for byte, with the plain program of tests/oracle.
+"""Runs `mzv` on random words, lines, files and faults, and compares each run, byte for byte, with the plain program of tests/oracle.
 
-    tests/random_lines.py --mzv PATH [--count N] [--seed S] [--areas dual,list,reduce,sample,probe,usage,fault,prefixes,limit] [--case K]
+    tests/random_lines.py --mzv PATH [--count N] [--seed S] [--areas dual,list,reduce,show,sample,probe,usage,fault,prefixes,limit] [--case K]
 
-Status, standard output and standard error are compared; a run that should fail to read or to write is compared by its status and its empty
-standard error. Each case has its own generator, made from seed, area and number, so `--areas AREA --seed S --case K` runs
-one case again. Two areas run on demand alone: a case of `prefixes` gives every prefix of one line of the whole grammar to one run of
-`reduce`, and one of `limit` has an input of about 67,108,864 bytes. The last line is 'N passed, M failed'.
+Status, standard output, standard error and the files of the folder in which it runs are compared; a run that should fail to read or to
+write is compared by its status, its empty standard error and these files. Each case has its own generator, made from seed, area and number,
+so `--areas AREA --seed S --case K` runs one case again. Two areas run on demand alone: a case of `prefixes` gives every prefix of one line
+of the whole grammar to one run of `reduce`, and one of `limit` has an input of about 67,108,864 bytes. The last line is 'N passed, M
+failed'.
 """
 import argparse
 import os
 import random
 import subprocess
 import sys
+import tempfile
 
 HERE = os.path.dirname(os.path.abspath(__file__))
 sys.path.insert(0, HERE)
-from oracle.program import READ_FAULT, WRITE_FAULT, reads_lines, whole_run  # noqa: E402
+from oracle.program import WRITE_FAULT, whole_run  # noqa: E402
 from random_cases import AREAS, Maker  # noqa: E402
 
 
 def wanted(case):
     """The status and the output of a case; no output where the sink fails."""
-    status, output = whole_run(case.words, case.given)
-    if case.fails == "source" and reads_lines(case.words):
-        return READ_FAULT, b""
+    def read():
+        if case.fails == "source":
+            raise OSError
+        return case.given
+    status, output = whole_run(case.words, read)
     return (WRITE_FAULT, b"") if case.fails == "sink" and output else (status, output)
 
 
 def run(mzv, case):
-    """The status, the output and the error output of the program."""
+    """The status and the output of the program, and its error output."""
     words = [mzv] + [word.encode("utf-8", "surrogateescape") for word in case.words]
     if case.fails == "sink":
         with open("/dev/full", "wb") as full:
             done = subprocess.run(words, input=case.given, stdout=full, stderr=subprocess.PIPE, timeout=120)
-        return done.returncode, b"", done.stderr
+        return (done.returncode, b""), done.stderr
     if case.fails == "source":
         # The master of a terminal without a slave fails when it is read.
         source, slave = os.openpty()
@@ -45,7 +49,24 @@ def run(mzv, case):
             os.close(source)
     else:
         done = subprocess.run(words, input=case.given, capture_output=True, timeout=120)
-    return done.returncode, done.stdout, done.stderr
+    return (done.returncode, done.stdout), done.stderr
+
+
+def beside_a_file(case, act):
+    """What some act gives in a folder with the case's file alone, and the files that are there behind it."""
+    with tempfile.TemporaryDirectory() as folder:
+        os.chdir(folder)
+        try:
+            if case.contents is not None:
+                with open("t", "wb") as file:
+                    file.write(case.contents)
+            result, files = act(), {}
+            for name in os.listdir("."):
+                with open(name, "rb") as file:
+                    files[name] = file.read()
+            return result, files
+        finally:
+            os.chdir(HERE)
 
 
 def difference(want, got):
@@ -56,16 +77,22 @@ def difference(want, got):
 
 def passes(mzv, case, name):
     """Runs one case, and says what differs."""
-    (status, output), (got_status, got_output, error) = wanted(case), run(mzv, case)
-    if (status, output, b"") == (got_status, got_output, error):
+    (status, output), files = beside_a_file(case, lambda: wanted(case))
+    ((got_status, got_output), error), got_files = beside_a_file(case, lambda: run(mzv, case))
+    if (status, output, b"", files) == (got_status, got_output, error, got_files):
         return True
     print("MISMATCH %s: words %r, %d bytes of input %r%s" % (name, case.words, len(case.given), case.given[:300], case.fails and ", failing " + case.fails))
+    if case.contents is not None:
+        print("  the file t has %d bytes: %s" % (len(case.contents), case.contents[:300].hex()))
     if status != got_status:
         print("  status %d, not %d" % (got_status, status))
     if output != got_output:
         print("  output of " + difference(output, got_output))
     if error:
         print("  error output %r" % error[:200])
+    for file in sorted(set(files) | set(got_files)):
+        if files.get(file) != got_files.get(file):
+            print("  file %r of %s" % (file, difference(files.get(file, b""), got_files.get(file, b""))))
     return False
 
 

@@ -3,7 +3,7 @@ import re
 from math import comb
 
 from .lyndon import MODES, is_lyndon
-from .words import is_admissible, word_of
+from .words import depth, is_admissible, word_of
 
 USAGE, PARAMS = 2, 3
 MAX_COLUMNS, MAX_PREFERRED, MAX_COUNT, MAX_TERMS = 2048, 16, 100000, 10000
@@ -12,12 +12,12 @@ USAGE_LINE = (
     "rewrite FILE; show FILE; sample W D M SEED COUNT; migrate FILE; rational FILE; probe N M")
 
 # The forms of each command: an N is a number word, a W any word.
-FORMS = {"dual": ["N"], "list": ["NN"], "reduce": ["NNNW", "NNNWW"], "sample": ["NNNNN"], "probe": ["NN"]}
+FORMS = {"dual": ["N"], "list": ["NN"], "reduce": ["NNNW", "NNNWW"], "show": ["W"], "sample": ["NNNNN"], "probe": ["NN"]}
 WORD_TEXT = re.compile(r"z\([1-9][0-9]{0,3}(,[1-9][0-9]{0,3})*\)")
 
 
 class Refused(Exception):
-    """The words ask for nothing: a status, and the line that is written."""
+    """What is asked for is not done: a status, and the line that is written."""
 
 
 def number(word):
@@ -55,14 +55,19 @@ def test_columns(weight, most):
     test(column_count(weight, most) <= MAX_COLUMNS, "columns %d" % column_count(weight, most))
 
 
+def may_be_preferred(weight, most, before, word):
+    """Whether a word may stand behind these as a preferred word of a table."""
+    fits = len(before) < MAX_PREFERRED and len(word) <= weight and depth(word) <= most and is_admissible(word) and is_lyndon(word)
+    return fits and all((len(other), other) < (len(word), word) for other in before[-1:])
+
+
 def preferred_words(weight, most, given):
     """The words of a text of preferred words, which is cut at each `+`."""
     words = []
     for i, piece in enumerate(given.split("+")):
         index = [int(k) for k in piece[2:-1].split(",")] if WORD_TEXT.fullmatch(piece) else []
-        word = word_of(index) if 2 <= sum(index) <= weight and len(index) <= most else ""
-        good = i < MAX_PREFERRED and is_admissible(word) and is_lyndon(word)
-        test(good and (not words or (len(words[-1]), words[-1]) < (len(word), word)), "preferred %d" % i)
+        word = word_of(index) if sum(index) <= weight else ""
+        test(may_be_preferred(weight, most, words, word), "preferred %d" % i)
         words.append(word)
     return tuple(words)
 
@@ -78,9 +83,14 @@ def test_table(weight, most, modulus, mode, given=None):
     return weight, most, modulus, mode, preferred
 
 
+def are_text(words):
+    """Whether all words are UTF-8; Python has the bytes of others as lone surrogates."""
+    return not any("\udc80" <= letter <= "\udcff" for word in words for letter in word)
+
+
 def fitting(words):
     """The name of the command that the words fit, and its values."""
-    name, given = (words[0], words[1:]) if words else ("", [])
+    name, given = (words[0], words[1:]) if words and are_text(words) else ("", [])
     for form in FORMS.get(name, []):
         values = [number(word) if kind == "N" else word for kind, word in zip(form, given)]
         if len(given) == len(form) and None not in values:
@@ -101,7 +111,7 @@ def asked(words):
     elif name == "sample":
         values = [test_table(*values[:3], "lex")] + values[3:]
         test(values[2] <= MAX_COUNT, "count %d" % values[2])
-    else:
+    elif name == "probe":
         test(1 <= values[0] <= MAX_TERMS, "terms %d" % values[0])
         test_modulus(values[1])
     return name, values

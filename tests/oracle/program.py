@@ -1,33 +1,38 @@
-"""What a whole run of `mzv` writes, and the status that it ends with, where memory suffices and no call fails."""
+"""What a whole run of `mzv` writes, and the status that it ends with, where memory suffices and no write fails."""
 from functools import partial
 
 from . import dual_lines, probes
 from .command_line import Refused, asked
+from .files import contents_of, show
 from .lyndon import NoInverse
 from .relations import listing, name_text
 from .samples import sample_line, sample_lines
-from .tables import Broken, table
+from .tables import Broken, reduced_rows, table
 from .words import admissible_words, text
 
-DONE, NO_INVERSE, READ_FAULT, WRITE_FAULT, TOO_MUCH_INPUT = 0, 4, 6, 7, 11
+DONE, NO_INVERSE, DISK_FAULT, READ_FAULT, WRITE_FAULT, TOO_MUCH_INPUT = 0, 4, 5, 6, 7, 11
 MAX_INPUT = 67108864
 
 
-def table_of(params):
-    """The table of some parameters, or the refusal that tells where no inverse is."""
+def refusal(fault):
+    """The refusal that tells where no inverse is."""
+    where = "relation %d" % fault.args[1] if isinstance(fault, Broken) else "word " + text(fault.args[1])
+    return Refused(NO_INVERSE, "no inverse: %d at %s" % (fault.args[0], where))
+
+
+def whole_table(params):
+    """The table of some parameters and its reduced rows."""
     try:
-        return table(*params)
-    except NoInverse as fault:
-        raise Refused(NO_INVERSE, "no inverse: %d at word %s" % (fault.args[0], text(fault.args[1])))
-    except Broken as fault:
-        raise Refused(NO_INVERSE, "no inverse: %d at relation %d" % fault.args)
+        return table(params), reduced_rows(params)
+    except (NoInverse, Broken) as fault:
+        raise refusal(fault)
 
 
 def sample(params, seed, count):
     """The line of `sample`."""
-    made = table_of(params)
+    made, reduced = whole_table(params)
     lines = sample_lines(admissible_words(made.weight, made.most), seed, count)
-    return sample_line(len(made.reduced), len(made.monomials), [made.reply(line) for line in lines])
+    return sample_line(len(reduced), len(made.monomials), [made.reply(reduced, line) for line in lines])
 
 
 def probe(n, modulus):
@@ -38,20 +43,33 @@ def probe(n, modulus):
     return partial(probes.reply_of, modulus, n)
 
 
-def work_of(words):
-    """What is to be done: a function that replies to each line, or a status and the lines that are written."""
+def reduce(params):
+    """The replies of `reduce`."""
+    made, reduced = whole_table(params)
+    return partial(made.reply, reduced)
+
+
+def work(name, values):
+    """What a command does: a function that replies to each line, or the lines that are written."""
+    if name == "dual":
+        return partial(dual_lines.reply_of, values[0])
+    if name == "list":
+        return ["%d %s" % (i, name_text(r)) for i, r in enumerate(listing(*values))]
+    if name == "reduce":
+        return reduce(values)
+    if name == "show":
+        return show(contents_of(values[0]))
+    return [sample(*values)] if name == "sample" else probe(*values)
+
+
+def status_and_work(words):
+    """A status, and a function that replies to each line or the lines that are written."""
     try:
-        name, values = asked(words)
-        if name == "dual":
-            return partial(dual_lines.reply_of, values[0])
-        if name == "list":
-            return DONE, ["%d %s" % (i, name_text(r)) for i, r in enumerate(listing(*values))]
-        if name == "reduce":
-            return table_of(values).reply
-        return (DONE, [sample(*values)]) if name == "sample" else probe(*values)
+        return DONE, work(*asked(words))
     except Refused as refused:
-        status, line = refused.args
-        return status, [line]
+        return refused.args[0], [refused.args[1]]
+    except OSError:
+        return DISK_FAULT, []
 
 
 def lines_of(given):
@@ -65,18 +83,16 @@ def answers(reply, lines):
     return b"".join(reply(line) + b"\n" for line in lines)
 
 
-def whole_run(words, given):
-    """The status and the bytes that are written, for the words and the bytes of standard input."""
-    work = work_of(words)
-    if not callable(work):
-        status, lines = work
-        return status, "".join(line + "\n" for line in lines).encode()
+def whole_run(words, read):
+    """The status and the bytes that are written. The bytes of standard input are read where lines are replied to; `read` may raise OSError."""
+    status, done = status_and_work(words)
+    if not callable(done):
+        return status, "".join(line + "\n" for line in done).encode()
+    try:
+        given = read()
+    except OSError:
+        return READ_FAULT, b""
     whole, last = lines_of(given[:MAX_INPUT])
     if len(given) > MAX_INPUT:
-        return TOO_MUCH_INPUT, answers(work, whole) + b"too much input\n"
-    return DONE, answers(work, whole + [last] * bool(last))
-
-
-def reads_lines(words):
-    """Whether a run with these words reads standard input."""
-    return callable(work_of(words))
+        return TOO_MUCH_INPUT, answers(done, whole) + b"too much input\n"
+    return DONE, answers(done, whole + [last] * bool(last))

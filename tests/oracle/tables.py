@@ -31,23 +31,29 @@ def normal_form(m, reduced, row):
     return rest
 
 
-def reduced_rows(m, rows):
-    """The reduced list with the span of some rows, by leads, made row by row; the lead of each rest has to have an inverse."""
-    reduced = {}
-    for number, row in enumerate(rows):
-        rest = normal_form(m, reduced, row)
-        if not rest:
-            continue
-        lead = min(rest)
-        if gcd(rest[lead], m) != 1:
+class Elimination:
+    """Rows that are offered one after the other: the forward row of each that is accepted, and the reduced list with their span, by leads.
+
+    Leads are looked for in the first columns alone; what stands behind them goes along.
+    """
+
+    def __init__(self, modulus, width):
+        self.modulus, self.width, self.forward, self.reduced = modulus, width, {}, {}
+
+    def offer(self, number, row):
+        """Accepts a row that is not in the span of those before; the lead of its rest has to have an inverse."""
+        rest = normal_form(self.modulus, self.reduced, row)
+        lead = min(rest, default=self.width)
+        if lead >= self.width:
+            return
+        if gcd(rest[lead], self.modulus) != 1:
             raise Broken(rest[lead], number)
-        inverse = pow(rest[lead], -1, m)
-        forward = {column: residue * inverse % m for column, residue in rest.items()}
-        for other in reduced.values():
+        inverse = pow(rest[lead], -1, self.modulus)
+        forward = {column: residue * inverse % self.modulus for column, residue in rest.items()}
+        for other in self.reduced.values():
             if lead in other:
-                add_scaled(m, other, -other[lead], forward)
-        reduced[lead] = forward
-    return reduced
+                add_scaled(self.modulus, other, -other[lead], forward)
+        self.reduced[lead], self.forward[number] = forward, dict(forward)
 
 
 def monomial_text(word):
@@ -56,27 +62,47 @@ def monomial_text(word):
     return "*".join(part if power == 1 else "%s^%d" % (part, power) for part, power in parts)
 
 
-class Table:
-    """The columns, the row of each word and the reduced rows, for one list of parameters."""
+def row_text(monomials, row):
+    """The text of a row's polynomial."""
+    return "+".join("%d*%s" % (residue, monomials[column]) for column, residue in sorted(row.items())) or "0"
 
-    def __init__(self, weight, most, modulus, mode, preferred):
-        self.weight, self.most, self.modulus = weight, most, modulus
-        self.rows_of_words = rows_of_words(modulus, weight, most, mode, preferred)
-        self.monomials = [monomial_text(word) for word in columns(weight, most, mode, preferred)]
-        self.reduced = reduced_rows(modulus, (self.row(value(modulus, name)) for name in listing(weight, most)))
+
+class Table:
+    """The columns and the row of each word, for one list of parameters."""
+
+    def __init__(self, params):
+        self.weight, self.most, self.modulus, mode, preferred = params
+        self.rows_of_words = rows_of_words(self.modulus, self.weight, self.most, mode, preferred)
+        self.monomials = [monomial_text(word) for word in columns(self.weight, self.most, mode, preferred)]
 
     def row(self, total):
         """The row of a sum of words of the table."""
         return row_of(self.modulus, self.rows_of_words, total)
 
-    def reply(self, line):
-        """The reply to a line, without the byte 10."""
+    def relation_row(self, name):
+        """The row of a relation's value."""
+        return self.row(value(self.modulus, name))
+
+    def reply(self, reduced, line):
+        """The reply to a line by a reduced list, without the byte 10."""
         try:
             total = meaning(self.modulus, self.weight, self.most, line)
         except Refused as refused:
             return refused.args[0]
-        rest = normal_form(self.modulus, self.reduced, self.row(total))
-        return "+".join("%d*%s" % (residue, self.monomials[column]) for column, residue in sorted(rest.items())).encode() or b"0"
+        return row_text(self.monomials, normal_form(self.modulus, reduced, self.row(total))).encode()
 
 
-table = lru_cache(maxsize=32)(Table)
+@lru_cache(maxsize=32)
+def table(params):
+    """The table of some parameters."""
+    return Table(params)
+
+
+@lru_cache(maxsize=32)
+def reduced_rows(params):
+    """The reduced list with the span of all listed relations, by leads."""
+    made = table(params)
+    work = Elimination(made.modulus, len(made.monomials))
+    for number, name in enumerate(listing(made.weight, made.most)):
+        work.offer(number, made.relation_row(name))
+    return work.reduced
