@@ -45,6 +45,7 @@ impl<R: Ring> ReducedRows<R> {
         ensures ring { IfOk result (λ list. list.ring ≡ ring.now) }
         ensures rows { IfOk result (λ list. list.rows ≡ rows.items) }
         ensures ok { IfOk result (λ list. IsRowList (R.modulus ring.now) (R.has ring.now) (R.value ring.now) R.zero list.columns list.rows) }
+        ensures inside { (i : ℕ) → IsErrOf result (ReducedFault.NotReduced i) → i < length rows.items }
         ensures not_reduced { (i : ℕ) → IsErrOf result (ReducedFault.NotReduced i)
             → IsNotReducedAt (R.value ring.now) rows.items i × ((k : ℕ) → k < i → ¬ (IsNotReducedAt (R.value ring.now) rows.items k)) }
         ensures fits { OnOk result ((i : ℕ) → i < length rows.items → ¬ (IsNotReducedAt (R.value ring.now) rows.items i)) }
@@ -131,6 +132,7 @@ fn reduced_width<R: Ring>(ring: &R, rows: &[Row<R>]) -> Result<u32, u32>
     requires { (i : ℕ) → i < length rows.now → AllIn (R.has ring.now) (get_or rows.now i []) }
     ensures ok { IfOk result (λ columns. IsRowList (R.modulus ring.now) (R.has ring.now) (R.value ring.now) R.zero columns rows.now) }
     ensures each { IfOk result (λ columns. (i : ℕ) → i < length rows.now → IsReducedAt (R.value ring.now) R.zero rows.now i) }
+    ensures inside { IfErr result (λ i. i < length rows.now) }
     ensures err { IfErr result (λ i. IsNotReducedAt (R.value ring.now) rows.now i × ((k : ℕ) → k < i → IsReducedAt (R.value ring.now) R.zero rows.now k)) }
 {
     let mut columns = 0;
