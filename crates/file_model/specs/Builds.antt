@@ -55,6 +55,10 @@ abbrev pub FitsAt : Params → List Page → ℕ → Type 0
 FitsAt params pages i = (page : Page) → slice_get pages i ≡ Some page
     → FitsPlace params (relation_count params.weight params.depth) (take i pages) page
 
+-- page 0 is a header, and page i fits its place in a file of its parameters
+abbrev pub FitsOwn : List Page → ℕ → Type 0
+FitsOwn pages i = (params : Params) × (params_of pages ≡ Some params) × FitsAt params pages i
+
 -- a first page that is a header has these parameters
 abbrev pub HasParams : Params → List Page → Type 0
 HasParams params pages = (q : Params) → params_of pages ≡ Some q → q ≡ params

@@ -1,6 +1,7 @@
 -- The rows of the final pages, and files that are complete.
 use Rattle.std.specs.Prelude.{◌≡◌, ℕ, List, [], ◌∷◌, ◌++◌, length, get_or, Some}
 use Rattle.column_order.specs.Columns.{ColumnList}
+use Rattle.echelon.specs.Lists.{lead_of}
 use Rattle.page_codec.specs.declared.params.Params.{Params}
 use Rattle.page_codec.specs.declared.parts.FinalEntry.{FinalEntry}
 use Rattle.page_codec.specs.declared.page.Page.{Page}
@@ -10,6 +11,7 @@ use Rattle.page_file.specs.Files.{ReadsAs}
 use Rattle.page_file.specs.Notes.{params_of}
 use Rattle.table_model.specs.ListedSpan.{relation_count}
 use Rattle.table_model.specs.Complete.{IsComplete}
+use Rattle.table_model.specs.Faults.{Verdict, IsVerdict}
 use Rattle.file_model.specs.TableOf.{IsTableOf}
 use Rattle.file_model.specs.Pages.{pairs_of}
 
@@ -33,6 +35,19 @@ final_row pages i = pairs_of ((get_or (finals_of pages) i no_entry).row)
 
 abbrev pub final_combination : List Page → ℕ → ℕ → ℕ
 final_combination pages i = pairs_of ((get_or (finals_of pages) i no_entry).combination)
+
+-- where row i of the final pages leads
+abbrev pub final_lead : List Page → ℕ → ℕ
+final_lead pages i = lead_of ((get_or (finals_of pages) i no_entry).row)
+
+-- this is found of the final rows of the pages
+abbrev pub IsFound : Params → ColumnList → List Page → Verdict → Type 0
+IsFound params columns pages =
+    IsVerdict params.modulus columns (length (finals_of pages)) (final_lead pages) (final_row pages) (final_combination pages)
+
+-- the last page is Done
+abbrev pub EndsDone : List Page → Type 0
+EndsDone pages = (rows : ℕ) × (front : List Page) × (pages ≡ front ++ Done rows ∷ [])
 
 -- the final rows of the pages are complete for the parameters
 pub record AreComplete (params : Params) (pages : List Page) : Type 0 where
