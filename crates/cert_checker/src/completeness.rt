@@ -64,16 +64,9 @@ pub fn check_rows<R: Ring>(
         Ok(Some(i)) => return Err(CompletenessFault::BadRow(i)),
         Err(fault) => return Err(CompletenessFault::Memory(fault)),
     }
-    let count = rows.len();
     let list = match ReducedRows::new(table.ring(), rows) {
         Ok(list) => list,
-        Err(ReducedFault::NotReduced(i)) => {
-            // What is said of the place does not say that there is a row.
-            if (i as usize) < count {
-                return Err(CompletenessFault::NotReduced(i));
-            }
-            return Err(CompletenessFault::Memory(AllocError));
-        }
+        Err(ReducedFault::NotReduced(i)) => return Err(CompletenessFault::NotReduced(i)),
         Err(ReducedFault::Memory(fault)) => return Err(CompletenessFault::Memory(fault)),
     };
     match told_missing(alloc, table, &names, &list) {

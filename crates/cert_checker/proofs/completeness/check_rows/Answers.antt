@@ -17,8 +17,8 @@ returns-in-Ok-Some-clause-bad_row g c = λ i e.
     c.deref-2.result.now c.deref-2.ensures.value c.in-Ok-Some.field-0 c.in-Ok-Some.i i c.in-Ok-Some.field-0-is c.in-Ok-Some.ensures
     (same-bad_row c.in-Ok-Some.i i e)
 
-pub returns-then-i-count-clause-not_reduced : goal.returns-then-i-count-clause-not_reduced
-returns-then-i-count-clause-not_reduced g c = λ i e.
+pub returns-in-Err-NotReduced-clause-not_reduced : goal.returns-in-Err-NotReduced-clause-not_reduced
+returns-in-Err-NotReduced-clause-not_reduced g c = λ i e.
     let t = c.args.table.now in
     let r = g.met.R.Ring in
     let m = g.R.Ring.modulus t.ring in
@@ -27,9 +27,10 @@ returns-then-i-count-clause-not_reduced g c = λ i e.
     let rows = c.args.rows.items in
     let j = c.in-Err-NotReduced.i in
     let big : 1 < m = omega (arith, r.modulus_from t.ring) in
-    let told = c.new.ensures.not_reduced j (c.in-Err-NotReduced.is ∙ ap (λ f. Err f) c.in-Err-NotReduced.field-0-is) in
+    let is = c.in-Err-NotReduced.is ∙ ap (λ f. Err f) c.in-Err-NotReduced.field-0-is in
+    let told = c.new.ensures.not_reduced j is in
     let there = subst (λ x. IsNotReducedAt (g.R.Ring.value x) rows j × ((k : ℕ) → k < j → ¬ (IsNotReducedAt (g.R.Ring.value x) rows k))) c.ring.ensures told in
-    let inside : j < length rows = omega (arith, c.if-i-count.true, c.len-count.ensures) in
+    let inside : j < length rows = c.new.ensures.inside j is in
     let one = same-not_reduced _ i e in
     let place : j ≡ i = cc (one, c.in-Err-NotReduced.i-is) in
     let good = all-good value m t.columns c.columns-columns.ensures.converts rows c.args.combinations.now c.deref-2.result.now c.deref-2.ensures.value
