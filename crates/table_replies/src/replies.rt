@@ -1,11 +1,12 @@
 //! Replies by the normal forms of the words of a table.
-ghost use Rattle.std.specs.Prelude.{◌≡◌, ◌%◌, length, IfOk, string_bytes};
+ghost use Rattle.std.specs.Prelude.{◌≡◌, ◌%◌, ℕ, List, length, IfOk, string_bytes};
 ghost use Rattle.word_sums.specs.Terms.{coefficient_of, AllIn as AllTermsIn};
 ghost use Rattle.echelon.specs.Lists.{lead_at, row_at};
 ghost use Rattle.table_model.specs.Computed.{cols_by};
 ghost use Rattle.poly_print.specs.Polynomials.{residues_text};
 ghost use Rattle.table_rewrite.specs.Replies.{AreOver, AreReplies, fault_text};
 ghost use Rattle.table_rewrite.specs.Inner.{IsNoMemory};
+ghost use Rattle.word_forms.specs.Forms.{AreForms};
 ghost use Rattle.table_replies.specs.Forms.{reply_by};
 
 use echelon::ReducedRows;
@@ -65,11 +66,24 @@ impl<R: Ring> TableReplies<R> {
             (row_at (R.value table.ring) rows.now.rows) (⟦<TableReplies<R> as Replier>⟧.reply_to replies)) }
     {
         let forms = WordForms::new(alloc, &table, rows)?;
-        Ok(TableReplies {
+        Ok(TableReplies::of(alloc, table, forms))
+    }
+
+    /// The same by forms of the words of the table that are made already.
+    pub fn of(alloc: Global, table: LyndonTable<R>, forms: WordForms<R>) -> TableReplies<R>
+        requires ring { forms.ring ≡ table.ring }
+        requires columns { length forms.forms ≡ length table.columns.list }
+        ensures replies { (rows : List (List (ℕ × R.Elem))) → AreForms (R.modulus table.ring) (R.has table.ring) (R.value table.ring) table.columns rows forms.forms
+            → AreReplies (R.modulus table.ring) table.columns (length rows) (lead_at rows) (row_at (R.value table.ring) rows)
+            (⟦<TableReplies<R> as Replier>⟧.reply_to result) }
+    {
+        // Its columns are those of a table, which they tell where they are lent.
+        table.columns();
+        TableReplies {
             alloc,
             table,
             forms,
-        })
+        }
     }
 
     /// The text of the sum of the forms of the words of a sum.

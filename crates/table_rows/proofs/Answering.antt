@@ -19,6 +19,12 @@ offered old new n k P Q S Zero zero accepted = (ap (λ e. e.ring) zero.1, ap (λ
 offered old new n k P Q S (Accepted row scale uses) zero accepted =
     (ap (λ e. e.ring) accepted.2, ap (λ e. e.columns) accepted.2, ap (λ e. e.above) accepted.2)
 
+-- no row is kept where the answer is Zero
+pub same_rows : {R E A : Type 0} (old new : Elimination R E) (n : ℕ) (P : Type 0) (t : Traced R E A) → t ≡ Zero
+    → IfZero t (P × (new ≡ record old { above = n })) → new.rows ≡ old.rows
+same_rows old new n P Zero e zero = ap (λ s. s.rows) zero.1
+same_rows old new n P (Accepted row scale uses) e zero = cc
+
 -- an answer tells one fault
 pub same_fault : {T : Type 0} (a b i j : ℕ) → IsErrOf {T = T} (Err (NoInverse a i)) (NoInverse b j) → (a ≡ b) × (i ≡ j)
 same_fault a b i j e = (cc, cc)

@@ -7,11 +7,12 @@ ghost use Rattle.echelon.specs.Lists.{lead_at, row_at};
 ghost use Rattle.echelon.specs.States.{IsRowList};
 ghost use Rattle.table_model.specs.ListedSpan.{values_of, count_of};
 ghost use Rattle.table_model.specs.ReducedRows.{IsReducedRows, IsUnbroken, BreaksFirst};
-ghost use Rattle.table_rows.specs.Inner.{HasTaken, IsValue};
+ghost use Rattle.word_forms.specs.Forms.{AreForms};
+ghost use Rattle.table_rows.specs.Inner.{HasTaken, AreCurrent, IsValue};
 
 use crate::fault::RowsFault;
-use crate::offers::{Offers, take_sum};
-use echelon::ReducedRows;
+use crate::offers::{Offers, forms_of_all, take_sum};
+use crate::table_forms::TableForms;
 use kept_products::{KeptProducts, value_kept};
 use lyndon_polys::LyndonTable;
 use relation_list::{RelName, listing};
@@ -19,19 +20,22 @@ use residues::Ring;
 use std::alloc::{AllocError, Global};
 use word_sums::WordSum;
 
-/// The reduced rows of all listed relations of the table's weight and depth, over its columns and its ring.
+/// The reduced rows of all listed relations of the table's weight and depth, over its columns and its ring, and the normal form by
+/// these of the word of each column.
 ///
 /// `NoInverse { value, n }` exactly where the work is broken, and first at relation `n`: what the earlier relations leave of it leads
-/// with the residue `value`, which has no inverse. `Memory` where memory is wanting.
+/// with the residue `value`, which has no inverse. `Memory` where memory is wanting for the rows or the forms.
 pub fn reduced_rows<R: Ring>(
     alloc: Global,
     table: &LyndonTable<R>,
-) -> Result<ReducedRows<R>, RowsFault>
-    ensures ok { IfOk result (λ list. IsReducedRows (R.modulus table.now.ring) table.now.columns (values_of (R.modulus table.now.ring) table.now.columns)
-        (count_of table.now.columns) (length list.rows) (lead_at list.rows) (row_at (R.value table.now.ring) list.rows)) }
-    ensures width { IfOk result (λ list. IsRowList (R.modulus table.now.ring) (R.has table.now.ring) (R.value table.now.ring) R.zero
-        (length table.now.columns.list) list.rows) }
-    ensures ring { IfOk result (λ list. list.ring ≡ table.now.ring) }
+) -> Result<TableForms<R>, RowsFault>
+    ensures ok { IfOk result (λ made. IsReducedRows (R.modulus table.now.ring) table.now.columns (values_of (R.modulus table.now.ring) table.now.columns)
+        (count_of table.now.columns) (length made.rows.rows) (lead_at made.rows.rows) (row_at (R.value table.now.ring) made.rows.rows)) }
+    ensures width { IfOk result (λ made. IsRowList (R.modulus table.now.ring) (R.has table.now.ring) (R.value table.now.ring) R.zero
+        (length table.now.columns.list) made.rows.rows) }
+    ensures ring { IfOk result (λ made. (made.rows.ring ≡ table.now.ring) × (made.forms.ring ≡ table.now.ring)) }
+    ensures forms { IfOk result (λ made. AreForms (R.modulus table.now.ring) (R.has table.now.ring) (R.value table.now.ring) table.now.columns
+        made.rows.rows made.forms.forms) }
     ensures no_inverse { (lead n : ℕ) → IsErrOf result (RowsFault.NoInverse lead n)
         → (n < count_of table.now.columns) × BreaksFirst (R.modulus table.now.ring) table.now.columns (values_of (R.modulus table.now.ring) table.now.columns) n lead }
     ensures fits { OnOk result (IsUnbroken (R.modulus table.now.ring) table.now.columns (values_of (R.modulus table.now.ring) table.now.columns) (count_of table.now.columns)) }
@@ -48,8 +52,8 @@ pub fn reduced_rows<R: Ring>(
             return Err(fault);
         }
     }
-    match offers.echelon.reduced() {
-        Ok(rows) => Ok(rows),
+    match forms_of_all(offers, table) {
+        Ok(made) => Ok(made),
         Err(fault) => Err(RowsFault::Memory(fault)),
     }
 }
@@ -63,11 +67,15 @@ fn take_value<R: Ring>(
     name: &RelName,
 ) -> Result<(), RowsFault>
     requires kept_ring { kept.old.ring ≡ table.now.ring }
-    requires so_far { HasTaken (R.modulus table.now.ring) (R.has table.now.ring) (R.value table.now.ring) table.now n offers.old.echelon offers.old.forms }
+    requires so_far { HasTaken (R.modulus table.now.ring) (R.has table.now.ring) (R.value table.now.ring) table.now n offers.old.echelon offers.old.known }
+    requires current { AreCurrent (R.modulus table.now.ring) (R.has table.now.ring) (R.value table.now.ring) table.now R.zero offers.old.echelon.rows
+        offers.old.known offers.old.is_stale }
     requires named { slice_get (listing_of table.now.columns.weight table.now.columns.depth) n ≡ Some name.now }
     ensures keeps_ring { kept.new.ring ≡ kept.old.ring }
     ensures ok { OnOk result (HasTaken (R.modulus table.now.ring) (R.has table.now.ring) (R.value table.now.ring) table.now (n + 1) offers.new.echelon
-        offers.new.forms) }
+        offers.new.known) }
+    ensures current { OnOk result (AreCurrent (R.modulus table.now.ring) (R.has table.now.ring) (R.value table.now.ring) table.now R.zero offers.new.echelon.rows
+        offers.new.known offers.new.is_stale) }
     ensures no_inverse { (lead k : ℕ) → IsErrOf result (RowsFault.NoInverse lead k)
         → (k ≡ n) × BreaksFirst (R.modulus table.now.ring) table.now.columns (values_of (R.modulus table.now.ring) table.now.columns) n lead }
 {

@@ -1,7 +1,6 @@
 use Rattle.std.proofs.Common.{◌≡◌, ◌≤◌, refl, length, sym, subst, arith}
 use Rattle.relation_list.specs.Listings.{listing_of}
-use Rattle.echelon.specs.Lists.{lead_at, row_at, AreReduced}
-use Rattle.echelon.specs.Finishes.{SameSpanOf}
+use Rattle.echelon.specs.Lists.{lead_at, row_at}
 use Rattle.table_model.specs.ListedSpan.{values_of, count_of}
 use Rattle.table_model.specs.ReducedRows.{IsReducedRows, IsUnbroken, BreaksFirst}
 use Rattle.table_rows.proofs.NamedValues.{few_names, item_named, items_are, count_is}
@@ -44,8 +43,8 @@ returns-in-Err-take_value-clause-no_inverse g c = λ lead n e.
       subst (λ k. BreaksFirst m columns (values_of m columns) k lead) (sym told.0) told.1,
     )
 
-pub returns-in-Ok-reduced-clause-ok : goal.returns-in-Ok-reduced-clause-ok
-returns-in-Ok-reduced-clause-ok g c =
+pub returns-in-Ok-forms_of_all-clause-ok : goal.returns-in-Ok-forms_of_all-clause-ok
+returns-in-Ok-forms_of_all-clause-ok g c =
     let t = c.args.table.now in
     let columns = t.columns in
     let m = g.R.Ring.modulus t.ring in
@@ -57,17 +56,13 @@ returns-in-Ok-reduced-clause-ok g c =
     let all : c.loop-n.n ≡ count_of columns = omega (arith, count_is names columns is, c.loop-n.auto.n-end, c.loop-n-test.false) in
     let so_far = c.loop-n.invariant.taken.offered in
     let kept = c.loop-n.offers.echelon.rows in
-    let list = c.in-Ok-reduced.rows.rows in
-    let told = c.in-Ok-reduced.ensures in
-    let reduced : AreReduced m value list =
-    subst (λ r. AreReduced (g.R.Ring.modulus r) (g.R.Ring.value r) list) so_far.ring told.ok.reduced in
-    let same : SameSpanOf m value kept list =
-    subst (λ r. SameSpanOf (g.R.Ring.modulus r) (g.R.Ring.value r) kept list) so_far.ring told.span in
+    let list = c.in-Ok-forms_of_all.made.rows.rows in
+    let fresh = c.in-Ok-forms_of_all.ensures in
     subst (λ n. IsReducedRows m columns (values_of m columns) n (length list) (lead_at list) (row_at value list)) all
-    (reduced_rows_of m value columns so_far.is_table so_far.converts c.loop-n.n kept list so_far.span reduced same)
+    (reduced_rows_of m value columns so_far.is_table so_far.converts c.loop-n.n kept list so_far.span fresh.is_list.reduced fresh.span)
 
-pub returns-in-Ok-reduced-clause-fits : goal.returns-in-Ok-reduced-clause-fits
-returns-in-Ok-reduced-clause-fits g c =
+pub returns-in-Ok-forms_of_all-clause-fits : goal.returns-in-Ok-forms_of_all-clause-fits
+returns-in-Ok-forms_of_all-clause-fits g c =
     let t = c.args.table.now in
     let columns = t.columns in
     let m = g.R.Ring.modulus t.ring in

@@ -21,11 +21,12 @@ returns g c = record {
       let m = g.R.Ring.modulus t.ring in
       let has = g.R.Ring.has t.ring in
       let value = g.R.Ring.value t.ring in
-      let f = c.in-Some.forms in
+      let k = c.in-Some.known in
+      let f = k.forms in
       let left = c.in_ok-left.left in
       let sum = c.args.sum.now in
-      let here : HasTaken m has value t n e (Some f) = subst (HasTaken m has value t n e) c.in-Some.is so_far in
-      let known : HasForms m has value t e.rows f = here.known in
+      let here : HasTaken m has value t n e (Some k) = subst (HasTaken m has value t n e) c.in-Some.is so_far in
+      let known : HasForms m has value t e.rows k.rows k.forms = here.known in
       let none : left ≡ [] =
       sym c.entries.ensures.entries
       ∙ no_items c.entries.result.now (eqb-true (length c.entries.result.now) 0 (sym c.is_empty.ensures ∙ nothing)) in
@@ -37,5 +38,5 @@ returns g c = record {
       (entries_of (g.R.Ring.value u) left) in
       let told : Says t.ring t.columns =
       subst (λ cs. Says t.ring cs) c.columns.ensures.columns (subst (λ u. Says u c.columns.result.now) known.ring c.in_ok-left.ensures.polynomial) in
-      subst (HasTaken m has value t (n + 1) e) (sym c.in-Some.is) (taken_in m has value t n e f here sum is left none told);
+      subst (HasTaken m has value t (n + 1) e) (sym c.in-Some.is) (taken_in m has value t n e k here sum is left none told);
 }

@@ -5,10 +5,9 @@ use Rattle.table_model.specs.Conversion.{IsCols}
 use Rattle.table_model.specs.ListedSpan.{values_of}
 use Rattle.word_sums.specs.Terms.{coefficient_of}
 use Rattle.table_rows.proofs.NamedValues.{same_cols}
-use Rattle.table_rows.proofs.OfferedValues.{span_next, broken, unbroken_next}
+use Rattle.table_rows.proofs.OfferedValues.{span_next, broken, unbroken_next, kept_within}
 use Rattle.table_model.specs.ReducedRows.{IsBrokenAt}
-use Rattle.table_rows.proofs.KnownValues.{known_next}
-use Rattle.table_rows.proofs.Answering.{offered, same_fault}
+use Rattle.table_rows.proofs.Answering.{offered, same_fault, same_rows}
 use Rattle.table_rows.proofs.offers.offer_sum.Given as given
 use Rattle.table_rows.proofs.offers.offer_sum.Goals as goal
 
@@ -75,14 +74,16 @@ returns-in-Err-NoInverse-clause-no_inverse g c = λ lead k e.
       ),
     )
 
-pub returns-in-Ok-offer-clause-known : goal.returns-in-Ok-offer-clause-known
-returns-in-Ok-offer-clause-known g c = λ forms known.
+pub returns-in-Ok-offer-clause-within : goal.returns-in-Ok-offer-clause-within
+returns-in-Ok-offer-clause-within g c =
     let t = c.args.table.now in
     let old = c.args.echelon.now in
     let new = c.offer.new.self in
-    let so_far = c.requires.so_far in
     let taken : TakesIn (g.R.Ring.modulus t.ring) (g.R.Ring.value t.ring) old.rows (entries_of (g.R.Ring.value t.ring) c.in-Ok.row) new.rows =
-    subst (λ r. TakesIn (g.R.Ring.modulus r) (g.R.Ring.value r) old.rows (entries_of (g.R.Ring.value r) c.in-Ok.row) new.rows) so_far.ring
+    subst (λ r. TakesIn (g.R.Ring.modulus r) (g.R.Ring.value r) old.rows (entries_of (g.R.Ring.value r) c.in-Ok.row) new.rows) c.requires.so_far.ring
     c.in-Ok-offer.ensures.span in
-    known_next (g.R.Ring.modulus t.ring) (g.R.Ring.has t.ring) (g.R.Ring.value t.ring) t old.rows new.rows (entries_of (g.R.Ring.value t.ring) c.in-Ok.row)
-    forms taken known
+    kept_within (g.R.Ring.modulus t.ring) (g.R.Ring.value t.ring) old.rows new.rows (entries_of (g.R.Ring.value t.ring) c.in-Ok.row) taken
+
+pub returns-in-Ok-offer-clause-same : goal.returns-in-Ok-offer-clause-same
+returns-in-Ok-offer-clause-same g c = λ not_new.
+    same_rows c.args.echelon.now c.offer.new.self (c.args.n + 1) _ c.in-Ok-offer.traced (c.is_accepted.ensures not_new) c.in-Ok-offer.ensures.zero
