@@ -1,0 +1,4 @@
+mod RowsRead
+mod PageWalks
+mod WholeTables
+mod ProductPlaces

@@ -1,0 +1,3 @@
+pub mod Checks
+pub mod CheckedTables
+pub mod Inner
