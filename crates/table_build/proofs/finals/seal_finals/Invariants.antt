@@ -1,0 +1,23 @@
+use Rattle.std.proofs.Common.{◌≡◌, ◌+◌, ◌≤◌}
+use Rattle.std.specs.Prelude.{IfSome}
+use Rattle.column_order.specs.Columns.{ColumnList}
+use Rattle.page_codec.specs.Places.{block_count}
+use Rattle.page_file.specs.Notes.{Suits}
+use Rattle.table_model.specs.ListedSpan.{count_of}
+use Rattle.table_build.specs.Inner.{Course, AreFinals, IsReadyAt, Keeps}
+use Rattle.table_build.proofs.finals.seal_finals.Given as goal
+
+abbrev pub invariant-loop-place : goal.invariant-loop-place
+invariant-loop-place g l = record {
+  ready : IsReadyAt (1 + l.blocks + l.place) l.file;
+  suits : IfSome (g.D.Disk.trace l.disk) (λ t. Suits l.file t.now.contents);
+  keeps : (columns : ColumnList) (course : Course) → l.blocks ≡ block_count (count_of columns)
+      → AreFinals (g.R.Ring.modulus l.ring) (g.R.Ring.value l.ring) columns course (1 + l.blocks) l.sealed.numbers.items l.sealed.rows.items l.finals.rows.rows
+      l.finals.uses.items (g.D.Disk.trace l.fn.disk) → Keeps course.pages (1 + l.blocks) (g.D.Disk.trace l.fn.disk) (g.D.Disk.trace l.disk);
+  are : (columns : ColumnList) (course : Course) → l.blocks ≡ block_count (count_of columns)
+      → AreFinals (g.R.Ring.modulus l.ring) (g.R.Ring.value l.ring) columns course (1 + l.blocks) l.sealed.numbers.items l.sealed.rows.items l.finals.rows.rows
+      l.finals.uses.items (g.D.Disk.trace l.fn.disk)
+      → AreFinals (g.R.Ring.modulus l.ring) (g.R.Ring.value l.ring) columns course (1 + l.blocks + l.place) l.sealed.numbers.items l.sealed.rows.items
+      l.finals.rows.rows l.finals.uses.items (g.D.Disk.trace l.disk);
+  faults : g.D.Disk.faults l.fn.disk ≤ g.D.Disk.faults l.disk;
+}
