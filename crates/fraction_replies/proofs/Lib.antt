@@ -1,0 +1,4 @@
+pub mod FirstBytes
+pub mod LineFractions
+pub mod FormFractions
+mod TextSteps
