@@ -4,7 +4,10 @@ pub mod OneAsk
 pub mod ProbeReplies
 pub mod Probes
 pub mod OneShow
+pub mod OneFileWork
+pub mod OneBuild
 pub mod OneWork
 pub mod SomeWork
 pub mod Outcomes
 pub mod ReduceTells
+pub mod RewriteTells

@@ -11,18 +11,19 @@ use Rattle.table_model.specs.Faults.{IsFirstWithout}
 use Rattle.table_model.proofs.FirstFaults.{first_without_unique}
 use Rattle.file_model.specs.TableOf.{IsTableOf}
 use Rattle.file_model.proofs.ParamColumns.{same_columns}
+use Rattle.file_model.specs.Builds.{FitsOwn}
 use Rattle.whole_runs.specs.declared.status.Status.TheVariants as status
 use Rattle.whole_runs.specs.FileTexts.{unreadable_line, misplaced_line, table_lines}
-use Rattle.whole_runs.specs.FileWorks.{FitsOwn, IsTableFile, IsNoTable, IsShow}
+use Rattle.whole_runs.specs.FileWorks.{IsTableFile, IsNoTable, IsShow}
 use Rattle.whole_runs.specs.FileWorks.IsNoTable.{foreign, unreadable, misplaced}
 use Rattle.whole_runs.specs.FileWorks.IsShow.{no_table, nothing, shown}
 use Rattle.whole_runs.specs.Works.{Work}
 use Rattle.whole_runs.specs.Works.Work.{Writes}
 
-same_pages : (bytes : List ℕ) (ps qs : List Page) → ReadsAs ps bytes → ReadsAs qs bytes → ps ≡ qs
+pub same_pages : (bytes : List ℕ) (ps qs : List Page) → ReadsAs ps bytes → ReadsAs qs bytes → ps ≡ qs
 same_pages bytes ps qs x y = sealed_unique ps qs bytes x.sealed y.sealed
 
-same_params : (p q : Params) → Some p ≡ Some q → p ≡ q
+pub same_params : (p q : Params) → Some p ≡ Some q → p ≡ q
 same_params p q e = cc
 
 module _ (bytes : List ℕ) where
@@ -53,7 +54,7 @@ module _ (bytes : List ℕ) where
       let moved = subst (λ pages. IsFirstWithout (FitsOwn pages) (length pages) i) (same_pages bytes qs ps others reads) first in
       moved.lacks (fit i moved.below)
 
-  own_places : (params : Params) (ps : List Page) → IsTableFile bytes params ps → (i : ℕ) → i < length ps → FitsOwn ps i
+  pub own_places : (params : Params) (ps : List Page) → IsTableFile bytes params ps → (i : ℕ) → i < length ps → FitsOwn ps i
   own_places params ps file i below = (params, file.header, file.fit i below)
 
   some_page : (params : Params) (ps : List Page) → IsTableFile bytes params ps → ¬ (ReadsAs [] bytes)

@@ -12,18 +12,22 @@ use Rattle.table_model.proofs.ReducedRowsLaws.{reduced_rows_counts}
 use Rattle.table_model.proofs.FirstFaults.{not_invertible_unique, not_invertible_word, first_break}
 use Rattle.line_samples.specs.Samples.{sample_lines}
 use Rattle.table_rewrite.proofs.LineReplies.{one_reply}
-use Rattle.whole_runs.specs.declared.command.Command.TheVariants.{Dual, List as ListOf, Reduce, Sample, Probe, Show}
+use Rattle.fraction_replies.proofs.LineFractions.{one_reply as one_fraction_reply}
+use Rattle.whole_runs.specs.declared.command.Command.TheVariants.{Dual, List as ListOf, Reduce, Sample, Probe, Show, Check, Rewrite, Rational, Build}
 use Rattle.whole_runs.specs.declared.command.WordsFault.TheVariants.{Usage, Param, Count, Terms}
 use Rattle.whole_runs.specs.declared.status.Status.TheVariants as status
 use Rattle.whole_runs.specs.CommandLine.{Asked}
 use Rattle.whole_runs.specs.Texts.{word_line, relation_line, sample_line}
-use Rattle.whole_runs.specs.Works.{Work, ByRows, IsOverRows, IsOverTable, RepliesBy, CountsBy}
+use Rattle.whole_runs.specs.Works.{Work, ByRows, IsOverRows, IsOverTable, RepliesBy, FractionsBy, CountsBy}
 use Rattle.whole_runs.specs.Wanted.{IsWork}
 use Rattle.whole_runs.specs.Works.Work.{Replies, Writes}
 use Rattle.whole_runs.specs.Works.IsOverRows.{no_inverse, broken, whole}
 use Rattle.file_model.proofs.ParamColumns.{same_columns}
 use Rattle.whole_runs.proofs.Probes.{one_probe}
 use Rattle.whole_runs.proofs.OneShow.{one_show}
+use Rattle.whole_runs.proofs.OneFileWork.{one_over_file}
+use Rattle.whole_runs.proofs.OneBuild.{one_build}
+use Rattle.whole_runs.specs.FileWorks.{CompletesBy}
 
 module _ (m : ℕ) (columns : ColumnList) where
   -- what is done with two lists of the reduced rows of all relations is one work
@@ -53,6 +57,13 @@ module _ (m : ℕ) (columns : ColumnList) (table : IsTable m columns) where
   one_replies v w converts count k lead other_lead rows others h g x y =
       let same : (line : List ℕ) → x.reply line ≡ y.reply line = λ line.
       one_reply m columns table converts count k lead other_lead rows others h g line (x.reply line) (y.reply line) (x.replies line) (y.replies line) in
+      x.is ∙ (λ i. Replies (λ line. same line i)) ∙ sym y.is
+
+  one_fractions : (v w : Work) → IsOnce m columns (FractionsBy m) v w
+  one_fractions v w converts count k lead other_lead rows others h g x y =
+      let same : (line : List ℕ) → x.reply line ≡ y.reply line = λ line.
+      one_fraction_reply m columns table converts count k lead other_lead rows others h g line (x.reply line) (y.reply line) (x.replies line)
+      (y.replies line) in
       x.is ∙ (λ i. Replies (λ line. same line i)) ∙ sym y.is
 
   one_count : (seed number : ℕ) (v w : Work) → IsOnce m columns (CountsBy m seed number) v w
@@ -86,3 +97,15 @@ one_work (Ok (Sample params seed number)) contents v w x y =
 one_work (Ok (Probe n m)) contents v w x y = one_probe n m v w x y
 one_work (Ok Show) (Some bytes) v w x y = one_show bytes v w x y
 one_work (Ok Show) None v w x y = absurd x
+one_work (Ok Check) (Some bytes) v w x y = one_over_file bytes CompletesBy v w (λ params columns table converts count lead rows is a b. a ∙ sym b) x y
+one_work (Ok Check) None v w x y = absurd x
+one_work (Ok Rewrite) (Some bytes) v w x y =
+    one_over_file bytes (λ params. RepliesBy params.modulus) v w
+    (λ params columns table converts count lead rows is. one_replies params.modulus columns table v w converts count count lead lead rows rows is is) x y
+one_work (Ok Rewrite) None v w x y = absurd x
+one_work (Ok Rational) (Some bytes) v w x y =
+    one_over_file bytes (λ params. FractionsBy params.modulus) v w
+    (λ params columns table converts count lead rows is. one_fractions params.modulus columns table v w converts count count lead lead rows rows is is) x y
+one_work (Ok Rational) None v w x y = absurd x
+one_work (Ok (Build params)) (Some bytes) v w x y = one_build params bytes v w x y
+one_work (Ok (Build params)) None v w x y = absurd x

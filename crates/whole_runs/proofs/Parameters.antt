@@ -27,13 +27,14 @@ modulus_refused m (Preferred k) x = absurd x.2
 modulus_refused m (Columns n) x = let one = least_columns in let is = x.3 in let many = x.4 in absurd (omega arith)
 
 -- words of other numbers than the commands have fit none
-pub fits_none : {A : Type 0} (f : A → List ℕ) (words : List A) → ¬ (length words ≡ 2) → ¬ (length words ≡ 3) → ¬ (length words ≡ 5) → ¬ (length words ≡ 6)
+pub fits_none : {A : Type 0} (f : A → List ℕ) (words : List A) → ¬ (length words ≡ 2) → ¬ (length words ≡ 3) → ¬ (length words ≡ 5) → ¬ (length words ≡ 6) → ¬ (length words ≡ 7)
     → AsksForIt (request_of (map f words)) (Err Usage)
-fits_none f [] two three five six = refl
-fits_none f (a ∷ []) two three five six = refl
-fits_none f (a ∷ b ∷ []) two three five six = absurd (two (omega arith))
-fits_none f (a ∷ b ∷ c ∷ []) two three five six = absurd (three (omega arith))
-fits_none f (a ∷ b ∷ c ∷ d ∷ []) two three five six = refl
-fits_none f (a ∷ b ∷ c ∷ d ∷ e ∷ []) two three five six = absurd (five (omega arith))
-fits_none f (a ∷ b ∷ c ∷ d ∷ e ∷ g ∷ []) two three five six = absurd (six (omega arith))
-fits_none f (a ∷ b ∷ c ∷ d ∷ e ∷ g ∷ h ∷ more) two three five six = refl
+fits_none f [] two three five six seven = refl
+fits_none f (a ∷ []) two three five six seven = refl
+fits_none f (a ∷ b ∷ []) two three five six seven = absurd (two (omega arith))
+fits_none f (a ∷ b ∷ c ∷ []) two three five six seven = absurd (three (omega arith))
+fits_none f (a ∷ b ∷ c ∷ d ∷ []) two three five six seven = refl
+fits_none f (a ∷ b ∷ c ∷ d ∷ e ∷ []) two three five six seven = absurd (five (omega arith))
+fits_none f (a ∷ b ∷ c ∷ d ∷ e ∷ g ∷ []) two three five six seven = absurd (six (omega arith))
+fits_none f (a ∷ b ∷ c ∷ d ∷ e ∷ g ∷ h ∷ []) two three five six seven = absurd (seven (omega arith))
+fits_none f (a ∷ b ∷ c ∷ d ∷ e ∷ g ∷ h ∷ i ∷ more) two three five six seven = refl

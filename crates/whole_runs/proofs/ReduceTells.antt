@@ -16,7 +16,7 @@ use Rattle.whole_runs.specs.Works.{Work, output_of, status_of, IsOverRows, IsOve
 use Rattle.whole_runs.specs.Works.IsOverRows.{no_inverse, broken, whole}
 use Rattle.whole_runs.specs.Outcomes.{Outcome, RepliesTell}
 
-not_broken_off : BreaksOff status.Done → ⊥
+pub not_broken_off : BreaksOff status.Done → ⊥
 not_broken_off (inl e) = cc
 not_broken_off (inr (inl e)) = cc
 not_broken_off (inr (inr (inl e))) = cc

@@ -8,6 +8,7 @@ use Rattle.page_codec.specs.declared.parts.FinalEntry.{FinalEntry}
 use Rattle.page_codec.specs.declared.page.Page.{Page}
 use Rattle.poly_print.specs.Polynomials.{monomial_text, row_text}
 use Rattle.file_model.specs.FinalRows.{finals_of}
+use Rattle.file_model.specs.Builds.{Figures}
 use Rattle.whole_runs.specs.Texts.{line}
 
 abbrev pub foreign_line : ℕ → List ℕ
@@ -21,6 +22,25 @@ misplaced_line i = codes "not a table: page " ++ (decimal i ++ line (codes " mis
 
 abbrev pub unfinished_line : ℕ → List ℕ
 unfinished_line n = codes "not complete: pages " ++ (decimal n ++ line (codes ", not done"))
+
+abbrev pub bad_row_line : ℕ → List ℕ
+bad_row_line i = codes "not complete: row " ++ (decimal i ++ line (codes " is not its combination"))
+
+abbrev pub not_reduced_line : ℕ → List ℕ
+not_reduced_line i = codes "not complete: row " ++ (decimal i ++ line (codes " is not reduced"))
+
+-- relation n leaves the polynomial of this text
+abbrev pub missing_line : ℕ → List ℕ → List ℕ
+missing_line n text = codes "not complete: relation " ++ (decimal n ++ (codes " leaves " ++ line text))
+
+abbrev pub exists_line : ℕ → List ℕ
+exists_line n = codes "not a table: exists " ++ line (decimal n)
+
+abbrev pub not_forward_line : ℕ → List ℕ
+not_forward_line i = codes "not a table: page " ++ (decimal i ++ line (codes " not forward"))
+
+abbrev pub differs_line : ℕ → List ℕ
+differs_line i = codes "not a table: page " ++ (decimal i ++ line (codes " differs"))
 
 -- the order of columns that a number stands for
 abbrev pub order_text : ℕ → List ℕ
@@ -52,3 +72,17 @@ row_lines m columns entries = flat_map (λ (e : FinalEntry). row_line m columns 
 abbrev pub table_lines : Params → List (List (List Letter)) → List Page → List ℕ
 table_lines params columns pages =
     codes "table " ++ (line (params_text params) ++ (codes "pages " ++ (line (decimal (length pages)) ++ row_lines params.modulus columns (finals_of pages))))
+
+-- the header, how many relations are listed, and how many rows there are
+abbrev pub complete_line : Params → ℕ → ℕ → List ℕ
+complete_line params relations rows =
+    codes "complete: " ++ (params_text params ++ (codes ", relations " ++ (decimal relations ++ (codes ", rows " ++ line (decimal rows)))))
+
+abbrev pub other_line : Params → List ℕ
+other_line params = codes "not a table: other " ++ line (params_text params)
+
+-- what was done, how many relations are listed, how many rows there are, how many relations were offered, and how many pages are sealed
+abbrev pub figures_line : List ℕ → Figures → List ℕ
+figures_line done figures =
+    done ++ (codes ": relations " ++ (decimal figures.relations ++ (codes ", rows " ++ (decimal figures.rows
+    ++ (codes ", offered " ++ (decimal figures.offered ++ (codes ", pages " ++ line (decimal figures.pages))))))))

@@ -6,8 +6,10 @@ use Rattle.outside_io.specs.Told.{before_told, after_told, AppendsFront}
 use Rattle.line_loop.specs.Lines.{whole_output, input_limit}
 use Rattle.line_loop.specs.Talk.{Tells}
 use Rattle.page_codec.specs.declared.params.Params.{Params}
+use Rattle.file_model.specs.FinalRows.{IsWholeFile}
 use Rattle.table_rewrite.specs.Telling.{TellsClasses}
-use Rattle.whole_runs.specs.declared.command.Command.TheVariants.{Dual, List as ListOf, Reduce, Sample, Probe, Show}
+use Rattle.fraction_replies.specs.Telling.{TellsByFractions}
+use Rattle.whole_runs.specs.declared.command.Command.TheVariants.{Dual, List as ListOf, Reduce, Sample, Probe, Show, Check, Rewrite, Rational, Build}
 use Rattle.whole_runs.specs.declared.command.WordsFault.TheVariants.{Usage, Param, Count, Terms}
 use Rattle.whole_runs.specs.declared.status.Status.{Status}
 use Rattle.whole_runs.specs.Statuses.{BreaksOff}
@@ -31,6 +33,10 @@ AsksForReplies (Ok (Reduce params)) = Unit {0}
 AsksForReplies (Ok (Sample params seed count)) = ⊥
 AsksForReplies (Ok (Probe n m)) = Unit {0}
 AsksForReplies (Ok Show) = ⊥
+AsksForReplies (Ok Check) = ⊥
+AsksForReplies (Ok Rewrite) = Unit {0}
+AsksForReplies (Ok Rational) = Unit {0}
+AsksForReplies (Ok (Build params)) = ⊥
 AsksForReplies (Err fault) = ⊥
 
 -- the command is done with a file, which its second word names
@@ -41,6 +47,10 @@ NamesFile (Ok (Reduce params)) = ⊥
 NamesFile (Ok (Sample params seed count)) = ⊥
 NamesFile (Ok (Probe n m)) = ⊥
 NamesFile (Ok Show) = Unit {0}
+NamesFile (Ok Check) = Unit {0}
+NamesFile (Ok Rewrite) = Unit {0}
+NamesFile (Ok Rational) = Unit {0}
+NamesFile (Ok (Build params)) = Unit {0}
 NamesFile (Err fault) = ⊥
 
 -- what a read of the disk gives, where it tells
@@ -80,3 +90,21 @@ pub record RepliesTell (params : Params) (left taken taken_new : Option (List �
   pub reply : List ℕ → List ℕ
   pub wrote : taken_new ≡ after_told taken (whole_output input_limit reply input)
   pub tells : TellsClasses params.modulus params.weight params.depth reply
+
+-- the same of replies with fractions
+pub record FractionsTell (params : Params) (left taken taken_new : Option (List ℕ)) : Type 0 where
+  pub input : List ℕ
+  pub told : Tells left input
+  pub reply : List ℕ → List ℕ
+  pub wrote : taken_new ≡ after_told taken (whole_output input_limit reply input)
+  pub tells : TellsByFractions params.modulus params.weight params.depth reply
+
+-- the bytes are a whole file with complete rows, and each line got its reply, which tells the class of its sum
+pub record FileTells (bytes : List ℕ) (left taken taken_new : Option (List ℕ)) : Type 0 where
+  pub file : IsWholeFile bytes
+  pub replies : RepliesTell file.params left taken taken_new
+
+-- the same with fractions
+pub record FileTellsByFractions (bytes : List ℕ) (left taken taken_new : Option (List ℕ)) : Type 0 where
+  pub file : IsWholeFile bytes
+  pub replies : FractionsTell file.params left taken taken_new

@@ -2,14 +2,14 @@
 use Rattle.std.specs.Prelude.{◌≡◌, ℕ, List, Option, IsSomeAnd, Ok, Err}
 use Rattle.dual_reply.specs.Reply.{reply_of}
 use Rattle.relation_list.specs.Listings.{listing_of}
-use Rattle.whole_runs.specs.declared.command.Command.TheVariants.{Dual, List as ListOf, Reduce, Sample, Probe, Show}
+use Rattle.whole_runs.specs.declared.command.Command.TheVariants.{Dual, List as ListOf, Reduce, Sample, Probe, Show, Check, Rewrite, Rational, Build}
 use Rattle.whole_runs.specs.declared.command.WordsFault.TheVariants.{Usage, Param, Count, Terms}
 use Rattle.whole_runs.specs.declared.status.Status.TheVariants as status
 use Rattle.whole_runs.specs.CommandLine.{Asked, Asks}
 use Rattle.whole_runs.specs.Texts.{usage_line, param_line, count_line, terms_line, name_lines}
-use Rattle.whole_runs.specs.Works.{Work, IsOverTable, RepliesBy, CountsBy, IsProbe}
+use Rattle.whole_runs.specs.Works.{Work, IsOverTable, RepliesBy, FractionsBy, CountsBy, IsProbe}
 use Rattle.whole_runs.specs.Works.Work.{Replies, Writes}
-use Rattle.whole_runs.specs.FileWorks.{IsShow}
+use Rattle.whole_runs.specs.FileWorks.{IsShow, IsOverFile, CompletesBy, IsBuild}
 
 -- what is to be done for each command, and for words that ask for none, with the contents of the disk, where it tells them; where it does not,
 -- nothing is said of a command that names a file
@@ -24,6 +24,10 @@ IsWork (Ok (Reduce params)) contents work = IsOverTable params (RepliesBy params
 IsWork (Ok (Sample params seed number)) contents work = IsOverTable params (CountsBy params.modulus seed number) work
 IsWork (Ok (Probe n m)) contents work = IsProbe n m work
 IsWork (Ok Show) contents work = IsSomeAnd contents (λ bytes. IsShow bytes work)
+IsWork (Ok Check) contents work = IsSomeAnd contents (λ bytes. IsOverFile bytes CompletesBy work)
+IsWork (Ok Rewrite) contents work = IsSomeAnd contents (λ bytes. IsOverFile bytes (λ params. RepliesBy params.modulus) work)
+IsWork (Ok Rational) contents work = IsSomeAnd contents (λ bytes. IsOverFile bytes (λ params. FractionsBy params.modulus) work)
+IsWork (Ok (Build params)) contents work = IsSomeAnd contents (λ bytes. IsBuild params bytes work)
 
 -- what is to be done for the words of a command line
 pub record Wants (words : List (List ℕ)) (contents : Option (List ℕ)) (work : Work) : Type 0 where

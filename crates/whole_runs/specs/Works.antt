@@ -13,6 +13,7 @@ use Rattle.table_model.specs.ReducedRows.{IsReducedRows, IsUnbroken, BreaksFirst
 use Rattle.table_model.specs.Faults.{IsNotInvertible}
 use Rattle.file_model.specs.TableOf.{IsTableOf}
 use Rattle.table_rewrite.specs.Replies.{AreReplies}
+use Rattle.fraction_replies.specs.Replies.{AreFractionReplies}
 use Rattle.line_samples.specs.Samples.{sample_lines}
 use Rattle.truncated_sums.specs.Inverses.{IsFirstWithout}
 use Rattle.probe_replies.specs.Replies.{AreProbeReplies}
@@ -68,6 +69,12 @@ pub record IsOverTable (params : Params) (done : ByRows) (work : Work) : Type 0 
 pub record RepliesBy (m : ℕ) (columns : ColumnList) (count : ℕ) (lead : ℕ → ℕ) (rows : ℕ → ℕ → ℕ) (work : Work) : Type 0 where
   pub reply : List ℕ → List ℕ
   pub replies : AreReplies m columns count lead rows reply
+  pub is : work ≡ Replies reply
+
+-- each line gets its reply with fractions by the rows
+pub record FractionsBy (m : ℕ) (columns : ColumnList) (count : ℕ) (lead : ℕ → ℕ) (rows : ℕ → ℕ → ℕ) (work : Work) : Type 0 where
+  pub reply : List ℕ → List ℕ
+  pub replies : AreFractionReplies m columns count lead rows reply
   pub is : work ≡ Replies reply
 
 -- the lines that are made from the seed get their replies by the rows, and these are counted

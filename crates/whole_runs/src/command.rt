@@ -33,6 +33,16 @@ pub enum Command {
     },
     /// To print the header of the table in a file, how many pages it has, and its sealed final rows.
     Show,
+    /// To check that the table in a file is complete, and to print one line.
+    Check,
+    /// To check the table in a file, and then to reply to lines by it.
+    Rewrite,
+    /// To check the table in a file, and then to reply to lines by it with small fractions for residues.
+    Rational,
+    /// To make the table of the parameters in a file where nothing stands, with a certificate for each row, and to print one line.
+    Build {
+        params: Params,
+    },
 }
 
 /// Why the words ask for nothing.

@@ -2,10 +2,13 @@
 ghost use Rattle.std.specs.Prelude.{◌≡◌, ◌==◌, Option, None, map, string_bytes, slice_index, codes, bytes_eq, if◌then◌else◌, IfOk};
 ghost use Rattle.std.specs.Option.{option_map};
 ghost use Rattle.whole_runs.specs.CommandLine.{Asks, AsksForIt, IsInRange, number_word};
-ghost use Rattle.whole_runs.specs.CommandLine.{dual_request, list_request, probe_request, reduce_request, sample_request, one_word, two_numbers, five_words};
+ghost use Rattle.whole_runs.specs.CommandLine.{dual_request, list_request, probe_request, reduce_request, sample_request, build_request};
+ghost use Rattle.whole_runs.specs.CommandLine.{one_word, two_numbers, five_words, six_words};
 
 use crate::command::{Command, WordsFault};
-use crate::requests::{asked_dual, asked_listing, asked_probe, asked_reduce, asked_sample};
+use crate::requests::{
+    asked_build, asked_dual, asked_listing, asked_probe, asked_reduce, asked_sample,
+};
 
 fn begins_with_plus(word: &[u8]) -> bool
     ensures { result ≡ (slice_index word.now 0 == 43) }
@@ -82,6 +85,28 @@ fn reduce_command(
     asked_reduce(weight, depth, modulus, order, preferred)
 }
 
+fn build_command(
+    weight: Option<u64>,
+    depth: Option<u64>,
+    modulus: Option<u64>,
+    order: &str,
+    preferred: Option<&str>,
+) -> Result<Command, WordsFault>
+    ensures asked { AsksForIt (build_request weight depth modulus order.now (option_map (λ t. t.now) preferred.entry)) result }
+    ensures in_range { IfOk result IsInRange }
+{
+    let Some(weight) = weight else {
+        return Err(WordsFault::Usage);
+    };
+    let Some(depth) = depth else {
+        return Err(WordsFault::Usage);
+    };
+    let Some(modulus) = modulus else {
+        return Err(WordsFault::Usage);
+    };
+    asked_build(weight, depth, modulus, order, preferred)
+}
+
 fn sample_command(
     weight: Option<u64>,
     depth: Option<u64>,
@@ -120,6 +145,15 @@ fn one_word(name: &str, word: &str) -> Result<Command, WordsFault>
     if name.as_bytes() == b"show".as_slice() {
         return Ok(Command::Show);
     }
+    if name.as_bytes() == b"check".as_slice() {
+        return Ok(Command::Check);
+    }
+    if name.as_bytes() == b"rewrite".as_slice() {
+        return Ok(Command::Rewrite);
+    }
+    if name.as_bytes() == b"rational".as_slice() {
+        return Ok(Command::Rational);
+    }
     Err(WordsFault::Usage)
 }
 
@@ -154,26 +188,46 @@ fn four_words(
 
 fn five_words(
     name: &str,
-    weight: Option<u64>,
-    depth: Option<u64>,
-    modulus: Option<u64>,
+    first: &str,
+    second: Option<u64>,
+    third: Option<u64>,
     fourth: &str,
     fifth: &str,
 ) -> Result<Command, WordsFault>
-    ensures asked { AsksForIt (five_words name.now weight depth modulus fourth.now fifth.now) result }
+    ensures asked { AsksForIt (five_words name.now first.now second third fourth.now fifth.now) result }
     ensures in_range { IfOk result IsInRange }
 {
     if name.as_bytes() == b"reduce".as_slice() {
-        return reduce_command(weight, depth, modulus, fourth, Some(fifth));
+        return reduce_command(number_word(first), second, third, fourth, Some(fifth));
+    }
+    if name.as_bytes() == b"build".as_slice() {
+        return build_command(second, third, number_word(fourth), fifth, None);
     }
     if name.as_bytes() == b"sample".as_slice() {
         return sample_command(
-            weight,
-            depth,
-            modulus,
+            number_word(first),
+            second,
+            third,
             number_word(fourth),
             number_word(fifth),
         );
+    }
+    Err(WordsFault::Usage)
+}
+
+fn six_words(
+    name: &str,
+    weight: Option<u64>,
+    depth: Option<u64>,
+    modulus: Option<u64>,
+    order: &str,
+    preferred: &str,
+) -> Result<Command, WordsFault>
+    ensures asked { AsksForIt (six_words name.now weight depth modulus order.now preferred.now) result }
+    ensures in_range { IfOk result IsInRange }
+{
+    if name.as_bytes() == b"build".as_slice() {
+        return build_command(weight, depth, modulus, order, Some(preferred));
     }
     Err(WordsFault::Usage)
 }
@@ -200,13 +254,21 @@ pub fn read_words(words: &[String]) -> Result<Command, WordsFault>
             number_word(modulus.as_str()),
             order.as_str(),
         ),
-        [name, weight, depth, modulus, fourth, fifth] => five_words(
+        [name, first, second, third, fourth, fifth] => five_words(
+            name.as_str(),
+            first.as_str(),
+            number_word(second.as_str()),
+            number_word(third.as_str()),
+            fourth.as_str(),
+            fifth.as_str(),
+        ),
+        [name, _file, weight, depth, modulus, order, preferred] => six_words(
             name.as_str(),
             number_word(weight.as_str()),
             number_word(depth.as_str()),
             number_word(modulus.as_str()),
-            fourth.as_str(),
-            fifth.as_str(),
+            order.as_str(),
+            preferred.as_str(),
         ),
         _ => Err(WordsFault::Usage),
     }

@@ -2,6 +2,7 @@ use Rattle.whole_runs.proofs.OneAsk.{one_ask}
 use Rattle.whole_runs.proofs.OneWork.{one_work}
 use Rattle.whole_runs.proofs.SomeWork.{some_work}
 use Rattle.whole_runs.proofs.ReduceTells.{reduce_tells}
+use Rattle.whole_runs.proofs.RewriteTells.{check_tells, rewrite_tells, rational_tells}
 use Rattle.whole_runs.proofs.laws.whole_run_laws.Goals as goal
 
 pub returns-clause-one_ask : goal.returns-clause-one_ask
@@ -15,3 +16,12 @@ returns-clause-some_work c = some_work
 
 pub returns-clause-reduce : goal.returns-clause-reduce
 returns-clause-reduce c = reduce_tells
+
+pub returns-clause-check : goal.returns-clause-check
+returns-clause-check c = check_tells
+
+pub returns-clause-rewrite : goal.returns-clause-rewrite
+returns-clause-rewrite c = rewrite_tells
+
+pub returns-clause-rational : goal.returns-clause-rational
+returns-clause-rational c = rational_tells
