@@ -6,3 +6,7 @@ pub mod Probes
 pub mod Asking
 pub mod ShownTexts
 pub mod ShownPages
+pub mod FileRuns
+pub mod JudgedFiles
+pub mod CheckedTexts
+pub mod Building

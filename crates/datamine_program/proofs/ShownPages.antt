@@ -1,5 +1,5 @@
 -- The pages of a file, one after the other, and what is told of a file whose table is not shown.
-use Rattle.std.proofs.Common.{◌≡◌, ℕ, ◌+◌, ◌<◌, ◌≤◌, false, true, List, [], ◌∷◌, ◌++◌, length, take, Option, Some, None, refl, sym, ap, subst, ◌∙◌, slice_get, append-nil, append_assoc, add-one, take-suc, take_all, inl, inr, zero, suc, rules, arith}
+use Rattle.std.proofs.Common.{◌≡◌, ℕ, ◌+◌, ◌<◌, ◌≤◌, false, List, [], ◌∷◌, ◌++◌, length, take, Option, Some, None, refl, sym, ap, subst, ◌∙◌, slice_get, append-nil, append_assoc, add-one, take-suc, take_all, inl, inr, zero, suc, rules, arith}
 use Rattle.std.proofs.lemmas.List.{nil_from_length}
 use Rattle.std.proofs.Math.Nat.{eq-or-lt_of_le}
 use Rattle.std.proofs.lemmas.List.Concat.{flat_map-append}
@@ -26,19 +26,13 @@ use Rattle.zeta_model.specs.declared.Letter.{Letter}
 use Rattle.table_model.specs.Faults.{IsFirstWithout}
 use Rattle.table_model.specs.ListedSpan.{relation_count}
 use Rattle.file_model.specs.FinalRows.{finals_of, finals_of_page}
-use Rattle.file_model.specs.Builds.{FitsAt}
+use Rattle.file_model.specs.Builds.{FitsAt, FitsOwn}
 use Rattle.file_model.proofs.CompleteFiles.{finals_of-append}
-use Rattle.whole_runs.specs.declared.command.Command.TheVariants.{Show}
-use Rattle.whole_runs.specs.declared.status.Status.{Status}
 use Rattle.whole_runs.specs.declared.status.Status.TheVariants as status
-use Rattle.whole_runs.specs.FileTexts.{foreign_line, unreadable_line, misplaced_line, unfinished_line, row_line, row_lines, table_lines}
-use Rattle.whole_runs.specs.FileWorks.{FitsOwn, IsShow}
-use Rattle.whole_runs.specs.FileWorks.IsNoTable.{foreign, unreadable, misplaced}
-use Rattle.whole_runs.specs.FileWorks.IsShow.{no_table, nothing, shown}
-use Rattle.whole_runs.specs.Outcomes.{Has, Outcome, contents_of}
-use Rattle.whole_runs.specs.Works.{Work}
+use Rattle.whole_runs.specs.FileTexts.{row_line, row_lines, table_lines}
+use Rattle.whole_runs.specs.FileWorks.{IsShow}
+use Rattle.whole_runs.specs.FileWorks.IsShow.{shown}
 use Rattle.whole_runs.specs.Works.Work.{Writes}
-use Rattle.whole_runs.proofs.Outcomes.{outcome_of}
 use Rattle.datamine_program.specs.declared.table_file.ShowFault.{ShowFault}
 use Rattle.datamine_program.specs.declared.table_file.ShowFault.TheVariants as shows
 use Rattle.datamine_program.specs.Inner.{reading_fault, IsBehind, IsPageFault, IsShowFault, ShowsAll, head_text, without_header}
@@ -75,37 +69,6 @@ pub few_names : (params : Params) → IsParams params → length (listing_of par
 few_names params fits =
     listing-small params.weight params.depth fits.weight_to
     (omega (arith, length-admissible_within params.weight params.depth fits.weight_from, fits.columns))
-
--- a run of `show`, over what the disk tells
-pub show_outcome : (told : Option Trace) (work : Work) (left taken taken_new : Option (List ℕ)) (result : Status) → IfSome told (λ t. IsShow t.now.contents work)
-    → Has work left taken taken_new result → Outcome (Ok Show) (contents_of told) left taken taken_new result
-show_outcome None work left taken taken_new result is run =
-    record { input = run.input; told = run.told; front = λ v none. absurd none; whole = λ asked. let some : false ≡ true = asked tt in absurd cc }
-show_outcome (Some t) work left taken taken_new result is run = outcome_of (Ok Show) (Some t.now.contents) work left taken taken_new result is run
-
--- the line of each refusal is the work
-abbrev IsShownBy : Option Trace → List ℕ → Status → Type 0
-IsShownBy told bytes end = IfSome told (λ t. IsShow t.now.contents (Writes bytes end))
-
-pub foreign_refused : (told : Option Trace) (n : ℕ) → IfSome told (λ t. IsForeign t.now.contents × (n ≡ length t.now.contents))
-    → IsShownBy told (foreign_line n) status.NotATable
-foreign_refused None n h = tt
-foreign_refused (Some t) n h = no_table (foreign h.0 (ap (λ k. Writes (foreign_line k) status.NotATable) h.1))
-
-pub unreadable_refused : (told : Option Trace) (i : ℕ) → IfSome told (λ t. (¬ (IsForeign t.now.contents)) × IsBadPage i t.now.contents)
-    → IsShownBy told (unreadable_line i) status.NotATable
-unreadable_refused None i h = tt
-unreadable_refused (Some t) i h = no_table (unreadable h.0 i h.1 refl)
-
-pub misplaced_refused : (told : Option Trace) (i : ℕ)
-    → IfSome told (λ t. (pages : List Page) × ReadsAs pages t.now.contents × IsFirstWithout (FitsOwn pages) (length pages) i)
-    → IsShownBy told (misplaced_line i) status.NotATable
-misplaced_refused None i h = tt
-misplaced_refused (Some t) i h = no_table (misplaced h.0 h.1 i h.2 refl)
-
-pub empty_refused : (told : Option Trace) → IfSome told (λ t. ReadsAs [] t.now.contents) → IsShownBy told (unfinished_line 0) status.NotComplete
-empty_refused None h = tt
-empty_refused (Some t) h = nothing h refl
 
 -- the first i pages were gone over, and the lines of their rows stand behind the head
 pub record HasShown (told : Option Trace) (params : Params) (columns : List (List (List Letter))) (head : List ℕ) (i : ℕ) (walk : WalkAt) (lines : List ℕ) :

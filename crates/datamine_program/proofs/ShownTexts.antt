@@ -102,7 +102,7 @@ negated-next m e es done new whole is h =
     ap (λ xs. xs ++ negated m es) is ∙ append_assoc done ((e.0, m - e.1) ∷ []) (negated m es) ∙ h
 
 module _ {E : Type 0} (value : E → ℕ) where
-  written_below : (high : ℕ) (row : List (ℕ × E)) → IsBelow (λ k. k) high (written value row) → IsBelow (λ k. k) high row
+  pub written_below : (high : ℕ) (row : List (ℕ × E)) → IsBelow (λ k. k) high (written value row) → IsBelow (λ k. k) high row
   written_below high [] below = tt
   written_below high (e ∷ es) below = (below.0, written_below high es below.1)
 

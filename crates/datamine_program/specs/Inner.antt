@@ -1,5 +1,5 @@
 -- What single steps of the code answer. No public clause cites these, so a reader need not believe them.
-use Rattle.std.specs.Prelude.{◌≡◌, ℕ, zero, suc, ◌+◌, ◌<◌, Bool, true, false, List, [], ◌∷◌, ◌++◌, length, map, slice_get, codes, decimal, Option, Some, None, IfSome}
+use Rattle.std.specs.Prelude.{◌≡◌, ◌⊎◌, ℕ, zero, suc, ◌+◌, ◌<◌, Bool, true, false, Ok, Err, List, [], ◌∷◌, ◌++◌, length, map, slice_get, codes, decimal, Option, Some, None, IfSome}
 use Rattle.std.specs.List.{AllByRecursion}
 use Rattle.word_letters.specs.Inner.{part_text}
 use Rattle.zeta_model.specs.declared.Letter.{Letter}
@@ -22,17 +22,22 @@ use Rattle.table_model.specs.Conversion.{Converts}
 use Rattle.table_model.specs.ListedSpan.{values_of, count_of}
 use Rattle.table_model.specs.ReducedRows.{IsReducedRows, IsUnbroken, BreaksFirst}
 use Rattle.table_model.specs.Faults.{IsNotInvertible, IsFirstWithout}
-use Rattle.file_model.specs.FinalRows.{finals_of, finals_of_page}
-use Rattle.file_model.specs.Builds.{FitsAt}
+use Rattle.table_model.specs.Faults.Verdict.{Whole}
+use Rattle.file_model.specs.FinalRows.{finals_of, finals_of_page, final_row, EndsDone, final_lead, IsFound}
+use Rattle.file_model.specs.Builds.{FitsAt, FitsOwn, BuildEnds}
+use Rattle.file_model.specs.Builds.Answer.{Exists, NoInverseWord as SaysNoInverseWord, NoInverseRelation as SaysNoInverseRelation}
+use Rattle.table_build.specs.declared.fault.BuildFault.{BuildFault}
+use Rattle.table_build.specs.declared.fault.BuildFault.TheVariants as built
 use Rattle.table_rewrite.specs.Replies.{AreReplies}
 use Rattle.line_samples.specs.Samples.{sample_lines}
+use Rattle.whole_runs.specs.declared.command.Command.TheVariants.{Dual, List as ListOf, Reduce, Sample, Probe, Show, Check, Rewrite, Rational, Build}
 use Rattle.whole_runs.specs.declared.status.Status.{Status}
 use Rattle.whole_runs.specs.declared.status.Status.TheVariants as status
 use Rattle.whole_runs.specs.CommandLine.{Asked}
 use Rattle.whole_runs.specs.Outcomes.{Outcome, AnswersSeen, AsksForReplies, NamesFile}
 use Rattle.whole_runs.specs.Texts.{line, word_line, relation_line, term_line, sample_line}
 use Rattle.whole_runs.specs.FileTexts.{params_text, row_lines}
-use Rattle.whole_runs.specs.FileWorks.{FitsOwn}
+use Rattle.whole_runs.specs.FileWorks.{IsTableFile}
 use Rattle.file_model.specs.TableOf.{IsTableOf}
 use Rattle.whole_runs.specs.Works.{Work}
 use Rattle.whole_runs.specs.Wanted.{IsWork}
@@ -45,6 +50,10 @@ use Rattle.lyndon_polys.specs.declared.fault.LyndonFault.{LyndonFault}
 use Rattle.lyndon_polys.specs.declared.fault.LyndonFault.TheVariants as conversion
 use Rattle.table_rows.specs.declared.fault.RowsFault.{RowsFault}
 use Rattle.table_rows.specs.declared.fault.RowsFault.TheVariants as work
+use Rattle.page_file.specs.Notes.{params_of}
+use Rattle.table_checker.specs.declared.fault.CheckFault.{CheckFault}
+use Rattle.table_checker.specs.declared.fault.CheckFault.TheVariants as checks
+use Rattle.table_checker.specs.Checks.{IsRowOf, IsRefusal}
 use Rattle.truncated_sums.specs.declared.fault.SumFault.{SumFault}
 use Rattle.truncated_sums.specs.declared.fault.SumFault.TheVariants as sums
 
@@ -187,3 +196,103 @@ IsShowFault rose told shows.Memory = Unit {0}
 pub record ShowsAll (params : Params) (columns : List (List (List Letter))) (pages : List Page) (head lines : List ℕ) : Type 0 where
   pub fit : (i : ℕ) → i < length pages → FitsAt params pages i
   pub lines_are : lines ≡ head ++ row_lines params.modulus columns (finals_of pages)
+
+-- how a command over a file ends that reads no line
+abbrev pub EndsFile : Status → Type 0
+EndsFile result =
+    (result ≡ status.Done) ⊎ (result ≡ status.Memory) ⊎ (result ≡ status.DiskFault) ⊎ (result ≡ status.WriteFault) ⊎ (result ≡ status.NotATable)
+    ⊎ (result ≡ status.NotComplete) ⊎ (result ≡ status.NoInverse)
+
+-- the command is about the table in a file
+abbrev pub ReadsTable : Asked → Type 0
+ReadsTable (Ok (Dual m)) = ⊥
+ReadsTable (Ok (ListOf w d)) = ⊥
+ReadsTable (Ok (Reduce params)) = ⊥
+ReadsTable (Ok (Sample params seed count)) = ⊥
+ReadsTable (Ok (Probe n m)) = ⊥
+ReadsTable (Ok Show) = Unit {0}
+ReadsTable (Ok Check) = Unit {0}
+ReadsTable (Ok Rewrite) = Unit {0}
+ReadsTable (Ok Rational) = Unit {0}
+ReadsTable (Ok (Build params)) = ⊥
+ReadsTable (Err fault) = ⊥
+
+-- and that table is checked
+abbrev pub JudgesFile : Asked → Type 0
+JudgesFile (Ok (Dual m)) = ⊥
+JudgesFile (Ok (ListOf w d)) = ⊥
+JudgesFile (Ok (Reduce params)) = ⊥
+JudgesFile (Ok (Sample params seed count)) = ⊥
+JudgesFile (Ok (Probe n m)) = ⊥
+JudgesFile (Ok Show) = ⊥
+JudgesFile (Ok Check) = Unit {0}
+JudgesFile (Ok Rewrite) = Unit {0}
+JudgesFile (Ok Rational) = Unit {0}
+JudgesFile (Ok (Build params)) = ⊥
+JudgesFile (Err fault) = ⊥
+
+-- the work is what is asked for with the contents that the disk tells
+abbrev pub IsFileWork : Asked → Option Trace → Work → Type 0
+IsFileWork asked told work = IfSome told (λ t. IsWork asked (Some t.now.contents) work)
+
+-- the rows are the final rows of the bytes, which are a whole file of the parameters
+pub record AreFinalRows (params : Params) (columns : ColumnList) (count : ℕ) (lead : ℕ → ℕ) (rows : ℕ → ℕ → ℕ) (bytes : List ℕ) : Type 0 where
+  pub pages : List Page
+  pub file : IsTableFile bytes params pages
+  pub closed : EndsDone pages
+  pub found : IsFound params columns pages Whole
+  pub as_many : count ≡ length (finals_of pages)
+  pub leads : lead ≡ final_lead pages
+  pub are_rows : rows ≡ final_row pages
+
+pub record IsWholeTable (told : Option Trace) (params : Params) (columns : ColumnList) (count : ℕ) (lead : ℕ → ℕ) (rows : ℕ → ℕ → ℕ) : Type 0 where
+  pub are_columns : IsTableOf params columns
+  pub finals : IfSome told (λ t. AreFinalRows params columns count lead rows t.now.contents)
+
+-- what is told of a fault can be printed: the word has an index, and what is left of a relation is a row of the table
+abbrev pub CanTell : Params → CheckFault → Type 0
+CanTell params checks.DiskFault = Unit {0}
+CanTell params (checks.BadPage i) = Unit {0}
+CanTell params (checks.Misfit i) = Unit {0}
+CanTell params (checks.NotDone n) = Unit {0}
+CanTell params (checks.NoInverse value word) = has_index word ≡ true
+CanTell params (checks.BadRow i) = Unit {0}
+CanTell params (checks.NotReduced i) = Unit {0}
+CanTell params (checks.Missing n rest) = IsRowOf params rest
+CanTell params (checks.Memory e) = Unit {0}
+
+-- why the table of the parameters is refused, in a file that reads as pages behind its header
+abbrev pub IsCheckFault : Type 0 → Option Trace → Params → CheckFault → Type 0
+IsCheckFault rose told params fault =
+    IsRefusal rose told (Some params) fault
+    × IfSome told (λ t. (pages : List Page) × ReadsAs pages t.now.contents × (params_of pages ≡ Some params))
+
+-- what is told of a build that went wrong can be printed
+abbrev pub CanTellFault : BuildFault → Type 0
+CanTellFault built.DiskFault = Unit {0}
+CanTellFault (built.Exists n) = Unit {0}
+CanTellFault (built.BadPage i) = Unit {0}
+CanTellFault (built.NoInverseWord value word) = has_index word ≡ true
+CanTellFault (built.NoInverseRelation value n) = Unit {0}
+CanTellFault (built.Differs i) = Unit {0}
+CanTellFault (built.Memory e) = Unit {0}
+
+-- how a run ends that tells it
+abbrev pub StatusOfFault : BuildFault → Status → Type 0
+StatusOfFault built.DiskFault result = result ≡ status.DiskFault
+StatusOfFault (built.Exists n) result = (result ≡ status.NotATable) ⊎ (result ≡ status.WriteFault)
+StatusOfFault (built.BadPage i) result = (result ≡ status.NotATable) ⊎ (result ≡ status.WriteFault)
+StatusOfFault (built.NoInverseWord value word) result = (result ≡ status.NoInverse) ⊎ (result ≡ status.WriteFault)
+StatusOfFault (built.NoInverseRelation value n) result = (result ≡ status.NoInverse) ⊎ (result ≡ status.WriteFault)
+StatusOfFault (built.Differs i) result = (result ≡ status.NotATable) ⊎ (result ≡ status.WriteFault)
+StatusOfFault (built.Memory e) result = result ≡ status.Memory
+
+-- what is said of the bytes on the disk, where it tells; a page that was read again is not what was sealed only where it does not
+abbrev pub IsBuildFault : Params → Option Trace → BuildFault → Type 0
+IsBuildFault params told built.DiskFault = Unit {0}
+IsBuildFault params told (built.Exists n) = IfSome told (λ t. BuildEnds params t.now.contents (Exists n))
+IsBuildFault params told (built.BadPage i) = told ≡ None
+IsBuildFault params told (built.NoInverseWord value word) = IfSome told (λ t. BuildEnds params t.now.contents (SaysNoInverseWord value word))
+IsBuildFault params told (built.NoInverseRelation value n) = IfSome told (λ t. BuildEnds params t.now.contents (SaysNoInverseRelation value n))
+IsBuildFault params told (built.Differs i) = told ≡ None
+IsBuildFault params told (built.Memory e) = Unit {0}

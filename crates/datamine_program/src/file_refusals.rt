@@ -1,12 +1,12 @@
 //! The lines that refuse a file. They take no memory, so that its want never comes in their place.
-ghost use Rattle.std.specs.Prelude.{◌≡◌, ◌≢◌, ◌⊎◌, ◌++◌, ℕ, List, Option, Ok, OnOk, OnErr, decimal};
+ghost use Rattle.std.specs.Prelude.{◌≡◌, ◌≢◌, ◌⊎◌, ◌++◌, ℕ, List, Option, OnOk, OnErr, decimal};
 ghost use Rattle.outside_io.specs.Causes.{HasCause, Rose};
 ghost use Rattle.outside_io.specs.Traces.{Trace};
 ghost use Rattle.outside_io.specs.Told.{after_told, AppendsFront};
-ghost use Rattle.whole_runs.specs.declared.command.Command.TheVariants.{Show};
+ghost use Rattle.whole_runs.specs.CommandLine.{Asked};
 ghost use Rattle.whole_runs.specs.Outcomes.{Has, Outcome, contents_of};
 ghost use Rattle.whole_runs.specs.Works.Work.{Writes};
-ghost use Rattle.datamine_program.specs.Inner.{IsShowFault};
+ghost use Rattle.datamine_program.specs.Inner.{ReadsTable, IsShowFault};
 
 use crate::pieces::write_begun;
 use crate::table_file::ShowFault;
@@ -29,7 +29,7 @@ fn write_around<K: Sink>(
 }
 
 // Tells a number between two texts, and ends so.
-fn refuse_number<K: Sink>(
+pub(crate) fn refuse_number<K: Sink>(
     sink: &mut K,
     first: &[u8],
     number: u64,
@@ -47,11 +47,11 @@ fn refuse_number<K: Sink>(
     }
 }
 
-// Tells why the table in a file is not shown, and writes nothing where memory was wanting or a call of the disk failed.
+// Tells why there is no table in a file, and writes nothing where memory was wanting or a call of the disk failed.
 pub(crate) fn refuse_file<K: Sink>(sink: &mut K, fault: ShowFault) -> Status
     ensures which { (result ≡ Status.NotATable) ⊎ (result ≡ Status.NotComplete) ⊎ (result ≡ Status.DiskFault) ⊎ (result ≡ Status.Memory) ⊎ (result ≡ Status.WriteFault) }
-    ensures outcome { (before now : ℕ) (told : Option Trace) (left : Option (List ℕ)) → IsShowFault (Rose before now) told fault
-        → Outcome (Ok Show) (contents_of told) left (K.taken sink.old) (K.taken sink.new) result }
+    ensures outcome { (asked : Asked) (before now : ℕ) (told : Option Trace) (left : Option (List ℕ)) → ReadsTable asked → IsShowFault (Rose before now) told fault
+        → Outcome asked (contents_of told) left (K.taken sink.old) (K.taken sink.new) result }
     ensures disk_fault_only { result ≡ Status.DiskFault → fault ≡ ShowFault.DiskFault }
     ensures write_fault_only { result ≡ Status.WriteFault → Rose (K.faults sink.old) (K.faults sink.new) }
 {

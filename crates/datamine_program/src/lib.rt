@@ -8,20 +8,27 @@
 //! and on `outside_io` for what it is lent.
 #![tactic(auto)]
 
+mod build;
+mod check;
+mod check_refusals;
 mod commands;
 mod dual;
 mod file_refusals;
+mod file_replies;
 mod lines;
 mod list;
 mod no_inverse;
 mod pieces;
 mod probe;
+mod rational;
 mod ready;
 mod reduce;
 mod refusals;
+mod rewrite;
 mod sample;
 mod show;
 mod table;
+mod table_check;
 mod table_file;
 mod texts;
 mod writing;

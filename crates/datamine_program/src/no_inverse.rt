@@ -72,7 +72,7 @@ fn write_word<K: Sink>(sink: &mut K, value: u64, word: Word) -> Result<(), Faile
 }
 
 // Tells the word at which a table does not convert.
-fn refuse_word<K: Sink>(sink: &mut K, value: u64, word: Word) -> Status
+pub(crate) fn refuse_word<K: Sink>(sink: &mut K, value: u64, word: Word) -> Status
     requires { has_index word ≡ true }
     ensures which { (result ≡ Status.NoInverse) ⊎ (result ≡ Status.WriteFault) }
     ensures has { (left : Option (List ℕ)) → Has (Writes (word_line value word) Status.NoInverse) left (K.taken sink.old) (K.taken sink.new) result }
@@ -85,7 +85,7 @@ fn refuse_word<K: Sink>(sink: &mut K, value: u64, word: Word) -> Status
 }
 
 // Tells the relation at which the work on a table is broken.
-fn refuse_relation<K: Sink>(sink: &mut K, value: u64, n: u32) -> Status
+pub(crate) fn refuse_relation<K: Sink>(sink: &mut K, value: u64, n: u32) -> Status
     ensures which { (result ≡ Status.NoInverse) ⊎ (result ≡ Status.WriteFault) }
     ensures has { (left : Option (List ℕ)) → Has (Writes (relation_line value n) Status.NoInverse) left (K.taken sink.old) (K.taken sink.new) result }
     ensures write_fault_only { result ≡ Status.WriteFault → Rose (K.faults sink.old) (K.faults sink.new) }

@@ -36,15 +36,13 @@ pub(crate) fn make_ready<R: Ring>(
     let MadeTable {
         table,
         rows: reduced,
+        forms,
     } = made;
     let rows = reduced.len();
     let columns = table.columns().len();
-    match TableReplies::new(alloc, table, &reduced) {
-        Ok(replies) => Ok(Ready {
-            replies,
-            rows,
-            columns,
-        }),
-        Err(_) => Err(TableFault::Memory),
-    }
+    Ok(Ready {
+        replies: TableReplies::of(alloc, table, forms),
+        rows,
+        columns,
+    })
 }

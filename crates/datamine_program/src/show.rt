@@ -12,11 +12,11 @@ ghost use Rattle.whole_runs.specs.declared.command.Command.TheVariants.{Show};
 ghost use Rattle.whole_runs.specs.FileWorks.{IsShow};
 ghost use Rattle.whole_runs.specs.Outcomes.{Outcome, contents_of};
 ghost use Rattle.whole_runs.specs.Works.Work.{Writes};
-ghost use Rattle.datamine_program.specs.Inner.{IsShowFault, ShowsAll};
+ghost use Rattle.datamine_program.specs.Inner.{EndsFile, IsShowFault, ShowsAll};
 
 use crate::file_refusals::refuse_file;
 use crate::table::columns_of;
-use crate::table_file::{ShowFault, next_page, open, relation_count, without_header};
+use crate::table_file::{ShowFault, next_page, open_table, relation_count};
 use crate::texts::{head_text, push_page};
 use crate::writing::write_and_end;
 use column_order::Columns;
@@ -98,19 +98,17 @@ fn shown_lines<D: Disk>(alloc: Global, disk: &mut D) -> Result<String, ShowFault
     ensures same { D.trace disk.new ≡ D.trace disk.old }
     ensures faults { D.faults disk.old ≤ D.faults disk.new }
 {
-    let mut file = match open(alloc, disk) {
-        Ok(file) => file,
+    let mut opened = match open_table(alloc, disk) {
+        Ok(opened) => opened,
         Err(fault) => return Err(fault),
     };
-    match file.params() {
-        Some(params) => table_lines(alloc, &mut file, disk, &params),
-        None => Err(without_header(file.count())),
-    }
+    let params = opened.params;
+    table_lines(alloc, &mut opened.file, disk, &params)
 }
 
 // Prints the table in the file, in one write.
 pub(crate) fn run_show<D: Disk, K: Sink>(alloc: Global, disk: &mut D, sink: &mut K) -> Status
-    ensures which { (result ≡ Status.Done) ⊎ (result ≡ Status.Memory) ⊎ (result ≡ Status.DiskFault) ⊎ (result ≡ Status.WriteFault) ⊎ (result ≡ Status.NotATable) ⊎ (result ≡ Status.NotComplete) }
+    ensures which { EndsFile result }
     ensures outcome { (left : Option (List ℕ)) → Outcome (Ok Show) (contents_of (D.trace disk.old)) left (K.taken sink.old) (K.taken sink.new) result }
     ensures disk_fault_only { result ≡ Status.DiskFault → Rose (D.faults disk.old) (D.faults disk.new) }
     ensures write_fault_only { result ≡ Status.WriteFault → Rose (K.faults sink.old) (K.faults sink.new) }

@@ -2,7 +2,7 @@
 ghost use Rattle.std.specs.Prelude.{◌≡◌, length, IfOk, IfErr};
 ghost use Rattle.echelon.specs.Lists.{lead_at, row_at};
 ghost use Rattle.page_codec.specs.Bounds.{IsParams};
-ghost use Rattle.table_rewrite.specs.Replies.{AreOver};
+ghost use Rattle.word_forms.specs.Forms.{AreForms};
 ghost use Rattle.file_model.specs.TableOf.{IsTableOf};
 ghost use Rattle.datamine_program.specs.Inner.{conversion_fault, relation_fault, IsTableMade, IsFaultOf};
 
@@ -13,13 +13,15 @@ use page_codec::Params;
 use residues::Ring;
 use std::alloc::{AllocError, Global};
 use table_rows::{RowsFault, reduced_rows};
+use word_forms::WordForms;
 use word_letters::Word;
 
-// A table, and the reduced rows of all its listed relations.
+// A table, the reduced rows of all its listed relations, and the normal forms of its words by these.
 #[derive(Drop)]
 pub(crate) struct MadeTable<R: Ring> {
     pub(crate) table: LyndonTable<R>,
     pub(crate) rows: ReducedRows<R>,
+    pub(crate) forms: WordForms<R>,
 }
 
 // Why a table was not made. The first cause in the order of the variants is told.
@@ -68,7 +70,7 @@ pub(crate) fn columns_of(alloc: Global, params: &Params) -> Result<Columns, Allo
     }
 }
 
-// The table of the parameters over a ring of their modulus, and the reduced rows of all its listed relations.
+// The table of the parameters over a ring of their modulus, the reduced rows of all its listed relations, and the forms of its words.
 pub(crate) fn table_of<R: Ring>(
     alloc: Global,
     ring: R,
@@ -77,9 +79,10 @@ pub(crate) fn table_of<R: Ring>(
     requires params { IsParams params.now }
     requires ring { R.modulus ring ≡ params.now.modulus }
     ensures made { IfOk result (λ made. IsTableMade params.now made.table.columns (length made.rows.rows) (lead_at made.rows.rows) (row_at (R.value made.table.ring) made.rows.rows)) }
-    ensures over { IfOk result (λ made. AreOver (length made.table.columns.list) made.rows.rows) }
+    ensures forms { IfOk result (λ made. AreForms (R.modulus made.table.ring) (R.has made.table.ring) (R.value made.table.ring) made.table.columns
+        made.rows.rows made.forms.forms) }
     ensures table_ring { IfOk result (λ made. made.table.ring ≡ ring) }
-    ensures rows_ring { IfOk result (λ made. made.rows.ring ≡ ring) }
+    ensures forms_ring { IfOk result (λ made. made.forms.ring ≡ ring) }
     ensures fault { IfErr result (IsFaultOf params.now) }
 {
     let Ok(columns) = columns_of(alloc, params) else {
@@ -90,7 +93,11 @@ pub(crate) fn table_of<R: Ring>(
         Err(fault) => return Err(conversion_fault(fault)),
     };
     match reduced_rows(alloc, &table) {
-        Ok(rows) => Ok(MadeTable { table, rows }),
+        Ok(made) => Ok(MadeTable {
+            table,
+            rows: made.rows,
+            forms: made.forms,
+        }),
         Err(fault) => Err(relation_fault(fault)),
     }
 }

@@ -45,7 +45,7 @@ fn reading_fault(fault: FileFault) -> ShowFault
 }
 
 // Looks at the disk.
-pub(crate) fn open<D: Disk>(alloc: Global, disk: &mut D) -> Result<PageFile, ShowFault>
+fn open<D: Disk>(alloc: Global, disk: &mut D) -> Result<PageFile, ShowFault>
     ensures ok { IfOk result (λ file. IfSome (D.trace disk.old) (λ t. Suits file t.now.contents)) }
     ensures live { IfOk result (λ file. IsTrue file.is_live) }
     ensures err { IfErr result (IsShowFault (Rose (D.faults disk.old) (D.faults disk.new)) (D.trace disk.old)) }
@@ -59,13 +59,40 @@ pub(crate) fn open<D: Disk>(alloc: Global, disk: &mut D) -> Result<PageFile, Sho
 }
 
 // What is told of so many pages that do not begin with a header.
-pub(crate) fn without_header(pages: u64) -> ShowFault
+fn without_header(pages: u64) -> ShowFault
     ensures { result ≡ without_header pages }
 {
     if pages == 0 {
         return ShowFault::NoPage;
     }
     ShowFault::Misplaced(0)
+}
+
+// A file whose first page is a header, and the parameters of that.
+#[derive(Drop)]
+pub(crate) struct TableFile {
+    pub(crate) file: PageFile,
+    pub(crate) params: Params,
+}
+
+// Looks at the disk, and refuses a file without a header.
+pub(crate) fn open_table<D: Disk>(alloc: Global, disk: &mut D) -> Result<TableFile, ShowFault>
+    ensures ok { IfOk result (λ opened. IfSome (D.trace disk.old) (λ t. Suits opened.file t.now.contents)) }
+    ensures live { IfOk result (λ opened. IsTrue opened.file.is_live) }
+    ensures header { IfOk result (λ opened. opened.file.params ≡ Some opened.params) }
+    ensures params { IfOk result (λ opened. IsParams opened.params) }
+    ensures err { IfErr result (IsShowFault (Rose (D.faults disk.old) (D.faults disk.new)) (D.trace disk.old)) }
+    ensures same { D.trace disk.new ≡ D.trace disk.old }
+    ensures faults { D.faults disk.old ≤ D.faults disk.new }
+{
+    let file = match open(alloc, disk) {
+        Ok(file) => file,
+        Err(fault) => return Err(fault),
+    };
+    match file.params() {
+        Some(params) => Ok(TableFile { file, params }),
+        None => Err(without_header(file.count())),
+    }
 }
 
 // How many relations the table of the parameters has.

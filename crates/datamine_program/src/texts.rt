@@ -6,16 +6,22 @@ ghost use Rattle.sparse_rows.specs.Entries.{IsBelow, AllIn};
 ghost use Rattle.page_codec.specs.Bounds.{IsParams, IsRowData};
 ghost use Rattle.page_codec.specs.Places.{AreBelow};
 ghost use Rattle.page_rows.specs.Written.{written, AreResidues};
+ghost use Rattle.column_order.specs.Columns.{ColumnList};
+ghost use Rattle.poly_print.specs.Polynomials.{residues_text};
+ghost use Rattle.file_model.specs.TableOf.{IsTableOf};
 ghost use Rattle.file_model.specs.FinalRows.{finals_of_page};
-ghost use Rattle.whole_runs.specs.FileTexts.{order_text, preferred_text, params_text, negated, row_line, row_lines};
+ghost use Rattle.cert_checker.specs.Certified.{residues_at};
+ghost use Rattle.table_checker.specs.Checks.{IsRowOf};
+ghost use Rattle.whole_runs.specs.FileTexts.{order_text, preferred_text, params_text, complete_line, missing_line, negated, row_line, row_lines};
 ghost use Rattle.datamine_program.specs.Inner.{word_gap, head_text, IsShowable, CanShow};
 
+use crate::table::columns_of;
 use column_order::{Columns, Preferred};
 use itoa::Buffer;
 use page_codec::{FinalEntry, Page, Params, RowData};
 use page_rows::row_of_data;
 use poly_print::{push_monomial, push_row};
-use residues::Ring;
+use residues::{Ring, WordMod};
 use sparse_rows::Row;
 use std::alloc::{AllocError, Global};
 
@@ -84,6 +90,63 @@ pub(crate) fn head_text(alloc: Global, params: &Params, pages: u64) -> Result<St
     text.push_str("table ")?;
     push_params(&mut text, params)?;
     push_count(&mut text, "\npages ", pages)?;
+    text.push_str("\n")?;
+    Ok(text)
+}
+
+// The line of a complete table.
+pub(crate) fn complete_text(
+    alloc: Global,
+    params: &Params,
+    relations: u32,
+    rows: u32,
+) -> Result<String, AllocError>
+    requires { IsParams params.now }
+    ensures { IfOk result (λ text. string_bytes text ≡ complete_line params.now relations rows) }
+{
+    let mut text = String::new(alloc);
+    text.push_str("complete: ")?;
+    push_params(&mut text, params)?;
+    push_count(&mut text, ", relations ", u64::from(relations))?;
+    push_count(&mut text, ", rows ", u64::from(rows))?;
+    text.push_str("\n")?;
+    Ok(text)
+}
+
+// Puts the text of a row of the table of the parameters at the end of a line.
+fn push_rest(
+    alloc: Global,
+    line: &mut String,
+    params: &Params,
+    rest: &RowData,
+) -> Result<(), AllocError>
+    requires params { IsParams params.now }
+    requires rest { IsRowOf params.now rest.now }
+    ensures { OnOk result ((columns : ColumnList) → IsTableOf params.now columns
+        → string_bytes line.new ≡ string_bytes line.old ++ residues_text columns.list (residues_at rest.now)) }
+{
+    let columns = columns_of(alloc, params)?;
+    let ring = WordMod::new(params.modulus).unwrap();
+    let row = row_of_data(alloc, &ring, rest)?;
+    push_row(line, &ring, &columns, &row)
+}
+
+// The line of a relation of which the final rows leave something.
+pub(crate) fn missing_text(
+    alloc: Global,
+    params: &Params,
+    n: u32,
+    rest: &RowData,
+) -> Result<String, AllocError>
+    requires params { IsParams params.now }
+    requires rest { IsRowOf params.now rest.now }
+    ensures { IfOk result (λ text. (columns : ColumnList) → IsTableOf params.now columns
+        → string_bytes text ≡ missing_line n (residues_text columns.list (residues_at rest.now))) }
+{
+    let mut text = String::new(alloc);
+    push_count(&mut text, "not complete: relation ", u64::from(n))?;
+    text.push_str(" leaves ")?;
+    push_rest(alloc, &mut text, params, rest)?;
     text.push_str("\n")?;
     Ok(text)
 }

@@ -1,9 +1,11 @@
-use Rattle.std.proofs.Common.{Ok, None, inl, inr, refl, subst}
+use Rattle.std.proofs.Common.{Ok, None, inl, inr, refl, subst, sym, ◌≡◌, ◌∙◌}
 use Rattle.dual_reply.specs.Reply.{reply_of}
-use Rattle.whole_runs.specs.declared.command.Command.TheVariants.{Dual, List as ListOf, Sample, Show}
+use Rattle.whole_runs.specs.declared.command.Command.TheVariants.{Dual, List as ListOf, Sample, Show, Check, Build}
 use Rattle.whole_runs.specs.Outcomes.{contents_of}
 use Rattle.whole_runs.specs.Wanted.{IsWork}
 use Rattle.datamine_program.proofs.Runs.{written_run, file_run, reads_lines}
+use Rattle.datamine_program.specs.Leaving.{WritesFile, BuildLeaves}
+use Rattle.datamine_program.proofs.Asking.{same_build}
 use Rattle.datamine_program.proofs.commands.perform.Goals as goal
 
 pub returns-in-Dual-clause-run : goal.returns-in-Dual-clause-run
@@ -27,6 +29,27 @@ returns-in-Sample-clause-run g c = rw c.in-Sample.is
 
 pub returns-in-Show-clause-run : goal.returns-in-Show-clause-run
 returns-in-Show-clause-run g c = rw c.in-Show.is (file_run (Ok Show) _ _ _ _ _ (c.run_show.ensures.outcome _) c.run_show.ensures.which tt (λ a. a))
+
+pub returns-in-Check-clause-run : goal.returns-in-Check-clause-run
+returns-in-Check-clause-run g c = rw c.in-Check.is (file_run (Ok Check) _ _ _ _ _ (c.run_check.ensures.outcome _) c.run_check.ensures.which tt (λ a. a))
+
+pub returns-in-Build-clause-run : goal.returns-in-Build-clause-run
+returns-in-Build-clause-run g c = rw c.in-Build.is
+    (file_run (Ok (Build c.in-Build.params)) _ _ _ _ _ (c.run_build.ensures.outcome _) c.run_build.ensures.which tt (λ a. a))
+
+pub returns-in-Build-clause-build : goal.returns-in-Build-clause-build
+returns-in-Build-clause-build g c = λ params is.
+    let same : c.in-Build.params ≡ params = same_build c.in-Build.params params (sym c.in-Build.is ∙ is) in
+    subst (λ p. BuildLeaves p c.run_build.result (g.D.Disk.trace c.args.disk.now) (g.D.Disk.trace c.run_build.new.disk)) same c.run_build.ensures.leaves
+
+pub returns-in-Build-clause-unchanged : goal.returns-in-Build-clause-unchanged
+returns-in-Build-clause-unchanged g c = λ quiet. absurd (quiet (subst (λ command. WritesFile (Ok command)) (sym c.in-Build.is) tt))
+
+pub returns-in-Rewrite-clause-run : goal.returns-in-Rewrite-clause-run
+returns-in-Rewrite-clause-run g c = rw c.in-Rewrite.is c.run_rewrite.ensures.run
+
+pub returns-in-Rational-clause-run : goal.returns-in-Rational-clause-run
+returns-in-Rational-clause-run g c = rw c.in-Rational.is c.run_rational.ensures.run
 
 pub returns-in-Dual-clause-disk_fault_only : goal.returns-in-Dual-clause-disk_fault_only
 returns-in-Dual-clause-disk_fault_only g c = λ e. let run = c.run_dual.ensures.run None in absurd (run.disk_fault e)
@@ -52,3 +75,13 @@ pub returns-in-Probe-clause-source : goal.returns-in-Probe-clause-source
 returns-in-Probe-clause-source g c = λ work is quiet.
     let contents = contents_of (g.D.Disk.trace c.args.disk.now) in
     c.run_probe.ensures.source contents work (subst (λ command. IsWork (Ok command) contents work) c.in-Probe.is is) quiet
+
+pub returns-in-Rewrite-clause-source : goal.returns-in-Rewrite-clause-source
+returns-in-Rewrite-clause-source g c = λ work is quiet.
+    let contents = contents_of (g.D.Disk.trace c.args.disk.now) in
+    c.run_rewrite.ensures.source work (subst (λ command. IsWork (Ok command) contents work) c.in-Rewrite.is is) quiet
+
+pub returns-in-Rational-clause-source : goal.returns-in-Rational-clause-source
+returns-in-Rational-clause-source g c = λ work is quiet.
+    let contents = contents_of (g.D.Disk.trace c.args.disk.now) in
+    c.run_rational.ensures.source work (subst (λ command. IsWork (Ok command) contents work) c.in-Rational.is is) quiet

@@ -1,9 +1,11 @@
 use Rattle.std.proofs.Common.{Ok, Err, map, string_bytes, subst}
+use Rattle.whole_runs.specs.declared.command.Command.TheVariants.{Check, Rewrite, Rational, Build}
 use Rattle.whole_runs.specs.CommandLine.{Asks}
 use Rattle.whole_runs.specs.Outcomes.{Outcome, AnswersSeen, AsksForReplies, NamesFile}
 use Rattle.whole_runs.specs.Works.{ReadsLines}
 use Rattle.whole_runs.proofs.Outcomes.{each_asked}
-use Rattle.datamine_program.proofs.Asking.{each_wanted, not_usage, passes, dual_tells, table_tells, same_fault, fails, no_dual, no_reduce}
+use Rattle.datamine_program.proofs.Asking.{each_wanted, not_usage, passes, dual_tells, table_tells, file_checked, file_tells, fractions_tell, same_fault, fails, no_dual, no_reduce, no_command, is_asked}
+use Rattle.datamine_program.specs.Leaving.{WritesFile}
 use Rattle.datamine_program.proofs.Runs.{takes_none}
 use Rattle.datamine_program.proofs.commands.run.Goals as goal
 
@@ -97,3 +99,41 @@ returns-in-Ok-clause-disk g c =
     let words = map string_bytes c.args.words.now in
     λ asked is plain.
     c.perform.ensures.disk (λ a. plain (each_asked words (Ok c.in-Ok.command) (λ b. NamesFile b) c.in-Ok.ensures.asked a asked is))
+
+pub returns-in-Ok-clause-check : goal.returns-in-Ok-clause-check
+returns-in-Ok-clause-check g c =
+    file_checked (map string_bytes c.args.words.now) c.in-Ok.command c.in-Ok.ensures.asked _ _ _ _ _ c.perform.ensures.run.outcome
+
+pub returns-in-Err-clause-check : goal.returns-in-Err-clause-check
+returns-in-Err-clause-check g c =
+    λ bytes is told e. absurd (no_command (map string_bytes c.args.words.now) c.in-Err.fault c.in-Err.ensures.asked Check is)
+
+pub returns-in-Ok-clause-rewrite : goal.returns-in-Ok-clause-rewrite
+returns-in-Ok-clause-rewrite g c =
+    file_tells (map string_bytes c.args.words.now) c.in-Ok.command c.in-Ok.ensures.asked _ _ _ _ _ c.perform.ensures.run.outcome
+
+pub returns-in-Err-clause-rewrite : goal.returns-in-Err-clause-rewrite
+returns-in-Err-clause-rewrite g c =
+    λ bytes is told e. absurd (no_command (map string_bytes c.args.words.now) c.in-Err.fault c.in-Err.ensures.asked Rewrite is)
+
+pub returns-in-Ok-clause-rational : goal.returns-in-Ok-clause-rational
+returns-in-Ok-clause-rational g c =
+    fractions_tell (map string_bytes c.args.words.now) c.in-Ok.command c.in-Ok.ensures.asked _ _ _ _ _ c.perform.ensures.run.outcome
+
+pub returns-in-Err-clause-rational : goal.returns-in-Err-clause-rational
+returns-in-Err-clause-rational g c =
+    λ bytes is told e. absurd (no_command (map string_bytes c.args.words.now) c.in-Err.fault c.in-Err.ensures.asked Rational is)
+
+pub returns-in-Ok-clause-unchanged : goal.returns-in-Ok-clause-unchanged
+returns-in-Ok-clause-unchanged g c =
+    let words = map string_bytes c.args.words.now in
+    λ asked is quiet.
+    c.perform.ensures.unchanged (λ a. quiet (each_asked words (Ok c.in-Ok.command) (λ b. WritesFile b) c.in-Ok.ensures.asked a asked is))
+
+pub returns-in-Ok-clause-build : goal.returns-in-Ok-clause-build
+returns-in-Ok-clause-build g c = λ params is.
+    c.perform.ensures.build params (is_asked (map string_bytes c.args.words.now) c.in-Ok.command c.in-Ok.ensures.asked (Build params) is)
+
+pub returns-in-Err-clause-build : goal.returns-in-Err-clause-build
+returns-in-Err-clause-build g c =
+    λ params is. absurd (no_command (map string_bytes c.args.words.now) c.in-Err.fault c.in-Err.ensures.asked (Build params) is)

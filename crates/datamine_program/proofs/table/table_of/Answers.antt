@@ -21,7 +21,7 @@ returns-in-Ok-reduced_rows-clause-made g c =
     let told = c.in-Ok-new.ensures in
     let m = g.R.Ring.modulus table.ring in
     let same = ap g.R.Ring.modulus told.ring in
-    let rows = c.in-Ok-reduced_rows.rows.rows in
+    let rows = c.in-Ok-reduced_rows.made.rows.rows in
     table_made params m table.columns (same ∙ c.requires.ring) (subst (IsTableOf params) (sym told.columns) c.in-Ok.ensures)
     (length rows) (lead_at rows) (row_at (g.R.Ring.value table.ring) rows)
     (subst (λ k. Converts k table.columns) (sym same) (subst (Converts (g.R.Ring.modulus c.args.ring)) (sym told.columns) told.converts))
