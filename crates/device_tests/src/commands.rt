@@ -24,14 +24,25 @@ pub(crate) fn conduct_over(
     input: Vec<u8>,
     fails: (&[u64], &[u64]),
 ) -> Result<(u8, MemSink), AllocError> {
+    let mut disk = MemDisk::new(alloc, file, Vec::new(alloc), None);
+    conduct_on(alloc, &mut disk, words, input, fails)
+}
+
+// The same on a disk, which keeps what the run writes.
+pub(crate) fn conduct_on(
+    alloc: Global,
+    disk: &mut MemDisk,
+    words: &[&str],
+    input: Vec<u8>,
+    fails: (&[u64], &[u64]),
+) -> Result<(u8, MemSink), AllocError> {
     let mut own = Vec::new(alloc);
     for word in words {
         own.push(String::from_str(alloc, word)?)?;
     }
-    let mut disk = MemDisk::new(alloc, file, Vec::new(alloc), None);
     let mut source = MemSource::new(input, Vec::from_slice(alloc, fails.0)?);
     let mut sink = MemSink::new(alloc, Vec::from_slice(alloc, fails.1)?);
-    let status = run(alloc, &own, &mut disk, &mut source, &mut sink);
+    let status = run(alloc, &own, disk, &mut source, &mut sink);
     Ok((status.code(), sink))
 }
 

@@ -4,6 +4,10 @@
 #![tactic(auto)]
 
 #[cfg(test)]
+mod built;
+#[cfg(test)]
+mod checked;
+#[cfg(test)]
 mod commands;
 #[cfg(test)]
 mod devices;

@@ -30,10 +30,10 @@ fn table_of(alloc: Global, w: u32, d: u32, m: u64) -> Result<LyndonTable<WordMod
 #[test]
 fn the_rows_of_weight_3_say_that_two_zetas_are_one(rt: HostRuntime) -> Result<(), Fail> {
     let table = table_of(rt.alloc(), 3, 2, 5)?;
-    let rows = reduced_rows(rt.alloc(), &table)?;
-    assert_eq!(rt; rows.len(), 1);
-    if rows.len() == 1 {
-        assert_eq!(rt; rows.row(0).entries(), [(0, 1), (1, 4)].as_slice());
+    let made = reduced_rows(rt.alloc(), &table)?;
+    assert_eq!(rt; made.rows.len(), 1);
+    if made.rows.len() == 1 {
+        assert_eq!(rt; made.rows.row(0).entries(), [(0, 1), (1, 4)].as_slice());
     }
     Ok(())
 }
@@ -41,8 +41,8 @@ fn the_rows_of_weight_3_say_that_two_zetas_are_one(rt: HostRuntime) -> Result<()
 #[test]
 fn the_rows_of_weight_5_are_six(rt: HostRuntime) -> Result<(), Fail> {
     let table = table_of(rt.alloc(), 5, 4, 101)?;
-    let rows = reduced_rows(rt.alloc(), &table)?;
-    assert_eq!(rt; rows.len(), 6);
+    let made = reduced_rows(rt.alloc(), &table)?;
+    assert_eq!(rt; made.rows.len(), 6);
     Ok(())
 }
 
