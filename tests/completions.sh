@@ -18,12 +18,21 @@ offers() {
     fi
 }
 
-offers "dual list reduce show sample probe" mzv ""
+offers "dual list reduce build check rewrite show sample rational probe" mzv ""
 offers "dual" mzv d
 offers "show sample" mzv s
 offers "mzv.bash" mzv show mz
+offers "mzv.bash" mzv check mz
+offers "mzv.bash" mzv build mz
+offers "2 20 21 22 23 24" mzv build table 2
+offers "1 2 3" mzv build table 4 ""
+offers "" mzv build table 4 3 ""
+offers "lex odd" mzv build table 4 3 101 ""
+offers "" mzv build table 4 3 101 lex ""
+offers "mzv.bash" mzv rewrite mz
 offers "" mzv show mzv.bash ""
-offers "reduce" mzv r
+offers "reduce rewrite rational" mzv r
+offers "mzv.bash" mzv rational mz
 offers "2 20 21 22 23 24" mzv list 2
 offers "2 20 21 22 23 24" mzv sample 2
 offers "1 2 3" mzv list 4 ""
@@ -58,8 +67,15 @@ describes() {
 }
 
 if command -v zsh >/dev/null 2>&1; then
-    describes "dual list reduce show sample probe" mzv ""
+    describes "dual list reduce build check rewrite show sample rational probe" mzv ""
     describes "files" mzv show ""
+    describes "files" mzv check ""
+    describes "files" mzv build ""
+    describes "1 2 3" mzv build table 4 ""
+    describes "modulus, from 3 to 9223372036854775807" mzv build table 4 3 ""
+    describes "lex odd" mzv build table 4 3 101 ""
+    describes "files" mzv rewrite ""
+    describes "files" mzv rational ""
     describes "" mzv show table ""
     describes "2 3 4 5 6 7 8 9 10 11 12 13 14 15 16 17 18 19 20 21 22 23 24" mzv list ""
     describes "2 3 4 5 6 7 8 9 10 11 12 13 14 15 16 17 18 19 20 21 22 23 24" mzv sample ""

@@ -3,9 +3,10 @@
 
     tests/documents.py PATH_TO_MZV
 
-In README.md and docs/ a line `$ mzv ..`, or one of a pipe with `mzv` in it, in a block of code is typed at the top of the repository,
-and what follows it, up to the next such line or the end of the block, is what it prints. A line `..` stands for any lines. Each file
-of examples/ that ends with .sh has its output beside it. The last line is 'N passed, M failed'.
+In README.md and docs/ a line `$ mzv ..`, or one of a pipe with `mzv` in it, in a block of code is typed in a folder that has what
+stands at the top of the repository, and what follows it, up to the next such line or the end of the block, is what it prints. A line
+`..` stands for any lines. Each page has a folder of its own, where the files that its commands make stay up to its end. Each file of
+examples/ that ends with .sh has its output beside it. The last line is 'N passed, M failed'.
 """
 import os
 import re
@@ -51,16 +52,29 @@ def is_shown(lines, printed):
     return re.fullmatch(pattern, printed) is not None
 
 
+def folder_of(page, work):
+    """The folder in which the commands of a page are typed. It is made at the first of them."""
+    folder = os.path.join(work, page.replace(os.sep, "_"))
+    if not os.path.isdir(folder):
+        os.mkdir(folder)
+        for name in os.listdir(ROOT):
+            os.symlink(os.path.join(ROOT, name), os.path.join(folder, name))
+    return folder
+
+
 def main():
     mzv = os.path.abspath(sys.argv[1])
     commands = [(os.path.relpath(path, ROOT), *found) for path in documents() for found in shown(path)]
     commands += [("examples", *found) for found in scripts()]
     failed = 0
     with tempfile.TemporaryDirectory() as work:
-        os.symlink(mzv, os.path.join(work, "mzv"))
-        environment = dict(os.environ, PATH=work + os.pathsep + os.environ["PATH"], TMPDIR=work)
+        programs = os.path.join(work, "bin")
+        os.mkdir(programs)
+        os.symlink(mzv, os.path.join(programs, "mzv"))
+        environment = dict(os.environ, PATH=programs + os.pathsep + os.environ["PATH"], TMPDIR=work)
         for page, command, lines in commands:
-            done = subprocess.run(["bash", "-c", command], cwd=ROOT, env=environment, capture_output=True, text=True, timeout=60)
+            words, folder = ["bash", "-c", command], folder_of(page, work)
+            done = subprocess.run(words, cwd=folder, env=environment, capture_output=True, text=True, timeout=60)
             if not is_shown(lines, done.stdout):
                 failed += 1
                 print("%s: %s\n  prints %r\n  is shown with %r" % (page, command, done.stdout, "\n".join(lines)))

@@ -6,7 +6,8 @@
 With ample memory a command gives its whole output. With one allocation that fails it has to end with status 1 and a first
 part of that output, or, where the allocation does not matter, with the whole output and its status; words that fit no
 command and parameters that fail their test have to be refused whatever memory there is, unless the words themselves could
-not be had. The last line is 'N passed, M failed'.
+not be had. A file that is built has to hold the first pages of its table by then, and all of them where the run was not broken
+off. The last line is 'N passed, M failed'.
 """
 import os
 import subprocess
@@ -16,11 +17,17 @@ import tempfile
 HERE = os.path.dirname(os.path.abspath(__file__))
 sys.path.insert(0, HERE)
 from oracle.builds import built_pages  # noqa: E402
-from oracle.files import file_of  # noqa: E402
+from oracle.files import contents_of, file_of, sealed_pages  # noqa: E402
 
-# The files that are there: a table of 4 pages, its first 3 pages, and the table with a bad page.
-TABLE = file_of(built_pages((4, 3, 101, "lex", ()))[0])
-FILES = {"table": TABLE, "stopped": TABLE[:-9], "bad": TABLE[:-8] + b"\0" * 8}
+# The files that are there: a table of 4 pages, its first 3 pages, the table with a bad page, with another combination beside its last row,
+# and without its last row; and one whose words do not convert.
+PAGES = built_pages((4, 3, 101, "lex", ()))[0]
+TABLE = file_of(PAGES)
+ROWS = PAGES[2][2]
+FILES = {"table": TABLE, "stopped": TABLE[:-9], "bad": TABLE[:-8] + b"\0" * 8,
+         "false": file_of(PAGES[:2] + [("Final", 0, ROWS[:-1] + ((ROWS[-1][0], ROWS[0][1]),)), PAGES[3]]),
+         "short": file_of(PAGES[:2] + [("Final", 0, ROWS[:-1]), ("Done", len(ROWS) - 1)]),
+         "unfit": file_of([("Header", (4, 3, 100, "lex", ())), ("Forward", 0, ()), ("Done", 0)])}
 LINES = b"z(2,1)-z(3)\nz(2,1)+z(3)\n" + b"z(3,1)+z(2)\n" * 3 + b"z(25)\n-z(4)+" + b"+".join(
     b"z(%d,1)" % k for k in range(2, 24)) + b"\n" + b"z(2)-" * 400 + b"z(3)\nz(2,2)"
 CASES = [
@@ -34,6 +41,18 @@ CASES = [
     (["reduce", "3", "2", "100", "odd", "z(2,1)"], b"z(3)\n"),
     (["reduce", "4", "3", "15", "lex"], b"z(4)\n"),
     (["reduce", "4", "3", "100", "lex"], b"z(4)\n"),
+    (["build", "built", "4", "3", "101", "lex"], b""),
+    (["build", "built", "4", "3", "15", "lex"], b""),
+    (["build", "built", "4", "3", "100", "lex"], b""),
+    (["build", "table", "4", "3", "101", "lex"], b""),
+    (["check", "table"], b""),
+    (["check", "stopped"], b""),
+    (["check", "false"], b""),
+    (["check", "short"], b""),
+    (["check", "unfit"], b""),
+    (["rewrite", "table"], b"z(3,1)\n1/2*z(2)^2-z(4)\nz(1,3)\nz(2)\n1/0\nz(4"),
+    (["rewrite", "short"], b"z(4)\n"),
+    (["rational", "table"], b"z(3,1)\n1/2*z(2)^2-z(4)\nz(2)"),
     (["show", "table"], b""),
     (["show", "stopped"], b""),
     (["show", "bad"], b""),
@@ -53,11 +72,17 @@ CASES = [
 
 
 def run(mzv, words, given, library, at, count_file):
+    """The status, what is written, the pages of a file that is built, and how many allocations there were."""
     environment = dict(os.environ, LD_PRELOAD=library, FAIL_AT=str(at), FAIL_COUNT=count_file)
-    done = subprocess.run([mzv] + words, input=given, capture_output=True, env=environment, timeout=60, cwd=os.path.dirname(count_file))
+    folder = os.path.dirname(count_file)
+    done = subprocess.run([mzv] + words, input=given, capture_output=True, env=environment, timeout=60, cwd=folder)
     with open(count_file) as told:
         count = int(told.read())
-    return done.returncode, done.stdout, done.stderr, count
+    built = os.path.join(folder, "built")
+    pages = sealed_pages(contents_of(built))
+    if os.path.exists(built):
+        os.remove(built)
+    return done.returncode, done.stdout, done.stderr, pages, count
 
 
 def main():
@@ -71,14 +96,14 @@ def main():
             with open(os.path.join(work, name), "wb") as file:
                 file.write(contents)
         for words, given in CASES:
-            status, output, error, count = run(mzv, words, given, library, 0, count_file)
+            status, output, error, pages, count = run(mzv, words, given, library, 0, count_file)
             assert error == b"", error
             seen = set()
             for at in range(1, count + 1):
-                now, told, error, _ = run(mzv, words, given, library, at, count_file)
+                now, told, error, built, _ = run(mzv, words, given, library, at, count_file)
                 seen.add(now)
-                whole = now == status and told == output
-                if error == b"" and (whole or (now == 1 and output.startswith(told))):
+                whole = now == status and told == output and built == pages
+                if error == b"" and (whole or (now == 1 and output.startswith(told) and pages[:len(built)] == built)):
                     passed += 1
                 else:
                     failed += 1

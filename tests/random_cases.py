@@ -7,13 +7,16 @@ from random_files import Files
 
 NOT_NUMBERS = ("", "x", "-1", "+3", " 3", "3 ", "1.0", "0x5", str(2**64), "9" * 40, "\u0663", "\udcff")
 COMMANDS = ("dual", "list", "reduce", "sample", "probe", "build", "resume", "check", "rewrite", "show", "migrate", "rational", "", "help", "Dual")
-FORMS = {"dual": "M", "list": "WD", "reduce": "WDMO", "show": "F", "sample": "WDMSS", "probe": "DM"}
+FORMS = {"dual": "M", "list": "WD", "reduce": "WDMO", "build": "FWDMO", "check": "F", "rewrite": "F", "show": "F", "sample": "WDMSS", "rational": "F",
+         "probe": "DM"}
 WRONG_SHAPES = ((25, 1), (4, 4), (14, 13), (0, 0), (2, 0), (24, 5), (1, 1), (5, 2**64 - 1), (2**64 - 1, 2))
 WRONG_LISTS = ("", "+", "z(2)+", "+z(2)", "z()", "z(0)", "z(02)", "z(2) ", "Z(2)", "z(2)+z(2)", "z(3)+z(2)", "z(2,2)", "z(1)", "z(9999)", "z(2)\n", "z(2)\udcff",
                "+".join(["z(2)"] * 17))
 FAULTY = ("dual 101", "dual 2", "list 4 3", "list 9 9", "reduce 4 3 101 lex", "reduce 4 3 15 lex", "reduce 4 3 101 best", "sample 3 2 5 1 2",
           "sample 4 3 100 1 2", "probe 2 101", "probe 5 15", "probe 0 101", "")
-FILE_FAULTS = ("show t", "show none/t", "show t/t", "show .")
+FILE_FAULTS = ("show t", "show none/t", "show t/t", "show .", "check t", "check none/t", "check t/t", "check .", "rewrite t", "rewrite none/t",
+               "rewrite t/t", "rewrite .", "rational t", "rational none/t", "rational .",
+               "build t 3 2 5 lex", "build t 4 3 100 lex", "build t 4 3 15 lex", "build none/t 3 2 5 lex", "build t/t 3 2 5 lex")
 
 
 class Case:
@@ -67,6 +70,23 @@ class Maker(Files):
         line = self.good_line(shape, False)[:400]
         return Case(["reduce", *shape, self.some(101, 1009, 2**61 - 1), self.some("lex", "odd")], b"\n".join(line[:n] for n in range(len(line) + 1)))
 
+    def build(self):
+        shape = self.shape()
+        preferred = [self.preferred(shape)] if self.chance(0.4) else []
+        contents = None if self.chance(0.7) else self.some(b"", b"", b"\0", b"\1", bytes(107), bytes(108))
+        words = self.table(shape) + preferred if self.chance(0.97) else [8, 7, 289, "lex"]
+        return Case(["build", "t"] + words, b"z(2)\n", contents=contents)
+
+    def check(self):
+        return Case(["check", "t"], b"z(2)\n", contents=self.table_file(self.params(7), 0.8) if self.chance(0.99) else None)
+
+    def rewrite(self, name="rewrite"):
+        params = self.params(7)
+        return Case([name, "t"], self.lines(params[:2]), contents=self.table_file(params, 0.2))
+
+    def rational(self):
+        return self.rewrite("rational")
+
     def show(self):
         return Case(["show", "t"], b"z(2)\n", contents=self.table_file(self.params(7)) if self.chance(0.97) else None)
 
@@ -105,4 +125,4 @@ class Maker(Files):
         return Case(self.some("dual 101", "reduce 3 2 5 lex", "probe 2 101").split(), given)
 
 
-AREAS = ("dual", "list", "reduce", "show", "sample", "probe", "usage", "fault")
+AREAS = ("dual", "list", "reduce", "build", "check", "rewrite", "show", "sample", "rational", "probe", "usage", "fault")

@@ -1,13 +1,13 @@
 #!/usr/bin/env python3
 """Runs `mzv` on random words, lines, files and faults, and compares each run, byte for byte, with the plain program of tests/oracle.
 
-    tests/random_lines.py --mzv PATH [--count N] [--seed S] [--areas dual,list,reduce,show,sample,probe,usage,fault,prefixes,limit] [--case K]
+    tests/random_lines.py --mzv PATH [--count N] [--seed S] [--areas dual,list,reduce,..] [--case K]
 
-Status, standard output, standard error and the files of the folder in which it runs are compared; a run that should fail to read or to
-write is compared by its status, its empty standard error and these files. Each case has its own generator, made from seed, area and number,
-so `--areas AREA --seed S --case K` runs one case again. Two areas run on demand alone: a case of `prefixes` gives every prefix of one line
-of the whole grammar to one run of `reduce`, and one of `limit` has an input of about 67,108,864 bytes. The last line is 'N passed, M
-failed'.
+The areas are dual, list, reduce, build, check, rewrite, show, sample, rational, probe, usage, fault, prefixes and limit. Status, standard
+output, standard error and the files of the folder in which it runs are compared; a run that should fail to read or to write is compared by
+its status, its empty standard error and these files. Each case has its own generator, made from seed, area and number, so `--areas AREA
+--seed S --case K` runs one case again. Two areas run on demand alone: a case of `prefixes` gives every prefix of one line of the whole
+grammar to one run of `reduce`, and one of `limit` has an input of about 67,108,864 bytes. The last line is 'N passed, M failed'.
 """
 import argparse
 import os

@@ -3,17 +3,27 @@
 
 replies_before_the_next_read.py PATH_TO_MZV
 
-The program runs as `mzv dual 101`, `mzv reduce 4 3 101 lex` and `mzv probe 2 101` between two pipes, as another program would use
-it: a line is written, and its reply is waited for before the next line. A line in two pieces gets its reply once its end is there,
-and one without the byte 10 at the end of the input. Ends with status 0 where all replies came in time, and with 1 else.
+The program runs as `mzv dual 101`, `mzv reduce 4 3 101 lex`, `mzv rewrite table`, `mzv rational table` and `mzv probe 2 101` between two
+pipes, as another program would use it: a line is written, and its reply is waited for before the next line. A line in two pieces gets
+its reply once its end is there, and one without the byte 10 at the end of the input. Ends with status 0 where all replies came in time,
+and with 1 else.
 """
 
 import os
 import select
 import subprocess
 import sys
+import tempfile
+
+HERE = os.path.dirname(os.path.abspath(__file__))
+sys.path.insert(0, HERE)
+from oracle.builds import built_pages  # noqa: E402
+from oracle.files import file_of  # noqa: E402
 
 SECONDS = 10
+
+# The file `table` of the folder in which the program runs.
+TABLE = file_of(built_pages((4, 3, 101, "lex", ()))[0])
 
 # The words of each run, what is written and what is to come, and the last line, which nothing ends, with its reply.
 TALKS = [
@@ -31,6 +41,16 @@ TALKS = [
         (b"2*z(4) - z(2,1", b""),
         (b",1)\nz(2)\n", b"61*z(2)^2\nweight 2\n"),
     ], (b"z(2)*z(2)", b"1*z(2)^2\n")),
+    ("rewrite table", [
+        (b"z(4)\n", b"61*z(2)^2\n"),
+        (b"z(3,1)-z(4", b""),
+        (b")\nz(2\n", b"30*z(2)^2\nsyntax 3\n"),
+    ], (b"z(1,3)", b"50*z(2)^2\n")),
+    ("rational table", [
+        (b"z(4)\n", b"2/5*z(2)^2\n"),
+        (b"-z(4)+", b""),
+        (b"z(2)^2\n", b"3/5*z(2)^2\n"),
+    ], (b"z(3,1)", b"91*z(2)^2\n")),
     ("probe 2 101", [
         (b"z(2)\n", b"77\n"),
         (b"2*z(2,2)+", b""),
@@ -66,16 +86,27 @@ def fault_of(program, talk, end):
     return None if (came, status) == (wanted, 0) else f"at the end {came!r} came, with status {status}"
 
 
-def main():
+def first_fault(mzv, folder):
+    """What went wrong first, if something did."""
     for words, talk, end in TALKS:
-        program = subprocess.Popen([sys.argv[1]] + words.split(), bufsize=0, stdin=subprocess.PIPE, stdout=subprocess.PIPE)
+        program = subprocess.Popen([mzv] + words.split(), bufsize=0, stdin=subprocess.PIPE, stdout=subprocess.PIPE, cwd=folder)
         try:
             fault = fault_of(program, talk, end)
         finally:
             program.kill()
         if fault:
-            print(f"mzv {words}: {fault}")
-            return 1
+            return f"mzv {words}: {fault}"
+    return None
+
+
+def main():
+    with tempfile.TemporaryDirectory() as folder:
+        with open(os.path.join(folder, "table"), "wb") as file:
+            file.write(TABLE)
+        fault = first_fault(os.path.abspath(sys.argv[1]), folder)
+    if fault:
+        print(fault)
+        return 1
     print(f"{sum(len(talk) + 1 for _, talk, _ in TALKS)} replies came in time")
     return 0
 

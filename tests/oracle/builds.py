@@ -1,4 +1,6 @@
-"""The pages of a table: forward rows and reduced rows, each with the combination of relations that it is the value of."""
+"""The pages of a table: forward rows and reduced rows, each with the combination of relations that it is the value of; and its file."""
+from .command_line import Refused
+from .files import NOT_A_TABLE, file_of, final_entries, length_of
 from .lyndon import NoInverse
 from .pages import PER_PAGE
 from .relations import listing
@@ -41,3 +43,19 @@ def built_pages(params):
         if (number + 1) % PER_PAGE == 0 or number + 1 == len(names):
             pages.append(forward_page(number // PER_PAGE, width, work.forward))
     return pages + last_pages(width, work.reduced), None
+
+
+def build(name, params):
+    """Writes the file of a table, or its pages up to a relation that breaks the work off, and answers the line of `build`."""
+    length = length_of(name)
+    if length:
+        raise Refused(NOT_A_TABLE, "not a table: exists %d" % length)
+    pages, fault = built_pages(params)
+    if isinstance(fault, NoInverse):
+        raise fault
+    with open(name, "wb") as file:
+        file.write(file_of(pages))
+    if fault:
+        raise fault
+    count = len(listing(*params[:2]))
+    return "built: relations %d, rows %d, offered %d, pages %d" % (count, len(final_entries(pages)), count, len(pages))

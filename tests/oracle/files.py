@@ -29,6 +29,18 @@ def contents_of(name):
         os.close(handle)
 
 
+def length_of(name):
+    """How many bytes a file has; none where it is not found."""
+    try:
+        handle = os.open(name, os.O_RDONLY)
+    except FileNotFoundError:
+        return 0
+    try:
+        return os.fstat(handle).st_size
+    finally:
+        os.close(handle)
+
+
 def file_of(pages):
     """The bytes of a file with these sealed pages."""
     return b"".join(OPEN + spelling(page) for page in pages) + CLOSED

@@ -2,12 +2,15 @@
 from functools import partial
 
 from . import dual_lines, probes
+from .builds import build
+from .checks import checked, complete_line
 from .command_line import Refused, asked
 from .files import contents_of, show
+from .fractions import fractions_text
 from .lyndon import NoInverse
 from .relations import listing, name_text
 from .samples import sample_line, sample_lines
-from .tables import Broken, reduced_rows, table
+from .tables import Broken, reduced_rows, row_text, table
 from .words import admissible_words, text
 
 DONE, NO_INVERSE, DISK_FAULT, READ_FAULT, WRITE_FAULT, TOO_MUCH_INPUT = 0, 4, 5, 6, 7, 11
@@ -49,6 +52,27 @@ def reduce(params):
     return partial(made.reply, reduced)
 
 
+def built(name, params):
+    """The line of `build`."""
+    try:
+        return build(name, params)
+    except (NoInverse, Broken) as fault:
+        raise refusal(fault)
+
+
+def with_file(name, contents):
+    """What is done with the bytes of a file."""
+    if name == "show":
+        return show(contents)
+    try:
+        params, made, reduced = checked(contents)
+    except NoInverse as fault:
+        raise refusal(fault)
+    if name == "check":
+        return [complete_line(params, reduced)]
+    return partial(made.reply, reduced, text_of=row_text if name == "rewrite" else partial(fractions_text, made.modulus))
+
+
 def work(name, values):
     """What a command does: a function that replies to each line, or the lines that are written."""
     if name == "dual":
@@ -57,8 +81,10 @@ def work(name, values):
         return ["%d %s" % (i, name_text(r)) for i, r in enumerate(listing(*values))]
     if name == "reduce":
         return reduce(values)
-    if name == "show":
-        return show(contents_of(values[0]))
+    if name == "build":
+        return [built(*values)]
+    if name in ("show", "check", "rewrite", "rational"):
+        return with_file(name, contents_of(values[0]))
     return [sample(*values)] if name == "sample" else probe(*values)
 
 

@@ -83,13 +83,13 @@ class Table:
         """The row of a relation's value."""
         return self.row(value(self.modulus, name))
 
-    def reply(self, reduced, line):
+    def reply(self, reduced, line, text_of=row_text):
         """The reply to a line by a reduced list, without the byte 10."""
         try:
             total = meaning(self.modulus, self.weight, self.most, line)
         except Refused as refused:
             return refused.args[0]
-        return row_text(self.monomials, normal_form(self.modulus, reduced, self.row(total))).encode()
+        return text_of(self.monomials, normal_form(self.modulus, reduced, self.row(total))).encode()
 
 
 @lru_cache(maxsize=32)
