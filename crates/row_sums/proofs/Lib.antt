@@ -1,0 +1,4 @@
+pub mod TotalLemmas
+mod Adding
+mod GatheredRows
+mod FoundPairs
