@@ -20,7 +20,7 @@ use Rattle.page_codec.specs.declared.params.Params.{Params}
 use Rattle.file_model.specs.TableOf.{IsTableOf}
 use Rattle.page_codec.specs.declared.parts.FinalEntry.{FinalEntry}
 use Rattle.page_codec.specs.declared.page.Page.{Page}
-use Rattle.file_model.specs.Pages.{IsWritten, IsFinalBlock, AreForwardPages, AreFinalPages, ArePages, listed_work, forward_page, final_page}
+use Rattle.file_model.specs.Pages.{Work, IsWritten, IsFinalBlock, AreForwardPages, AreFinalPages, ArePages, listed_work, forward_page, final_page}
 use Rattle.page_codec.specs.declared.page.Page.TheVariants.{Header, Done}
 use Rattle.file_model.specs.Pages.ArePages.{none, begun, whole}
 use Rattle.file_model.specs.Prefixes.{IsPages, IsSound}
@@ -60,20 +60,20 @@ no_finals : (ps : List Page) → AllByRecursion (λ p. finals_of_page p ≡ []) 
 no_finals [] h = refl
 no_finals (p ∷ ps) h = (λ i. h.0 i ++ finals_of ps) ∙ no_finals ps h.1
 
-module _ (m : ℕ) (columns : ColumnList) (count : ℕ) (rows : ℕ → ℕ → ℕ) where
+module _ (m : ℕ) (columns : ColumnList) (work : Work) (count : ℕ) (rows : ℕ → ℕ → ℕ) where
   -- final pages from page i on
   abbrev pub FromPage : ℕ → List Page → Type 0
-  FromPage i gs = (k : ℕ) → k < length gs → (es : List FinalEntry) × (slice_get gs k ≡ Some (final_page (64 * (i + k)) es)) × IsFinalBlock m columns
-      (listed_work m columns) count rows (i + k) es
+  FromPage i gs = (k : ℕ) → k < length gs → (es : List FinalEntry) × (slice_get gs k ≡ Some (final_page (64 * (i + k)) es))
+      × IsFinalBlock m columns work count rows (i + k) es
 
   pub first_final : (i : ℕ) (g : Page) (gs : List Page) → FromPage i (g ∷ gs)
-      → (es : List FinalEntry) × (g ≡ final_page (64 * i) es) × IsFinalBlock m columns (listed_work m columns) count rows i es
+      → (es : List FinalEntry) × (g ≡ final_page (64 * i) es) × IsFinalBlock m columns work count rows i es
   first_final i g gs h =
       let (es, at, is) = h 0 (omega arith) in
       let same : i + 0 ≡ i = omega arith in (
         es,
         get_or_from_slice_get (g ∷ gs) 0 (final_page (64 * (i + 0)) es) g at ∙ ap (λ x. final_page (64 * x) es) same,
-        subst (λ x. IsFinalBlock m columns (listed_work m columns) count rows x es) same is,
+        subst (λ x. IsFinalBlock m columns work count rows x es) same is,
       )
 
   pub later_finals : (i : ℕ) (g : Page) (gs : List Page) → FromPage i (g ∷ gs) → FromPage (suc i) gs
@@ -84,7 +84,7 @@ module _ (m : ℕ) (columns : ColumnList) (count : ℕ) (rows : ℕ → ℕ → 
       let there : get_or gs k page ≡ page = get_or_from_slice_get (g ∷ gs) (suc k) page page at in (
         es,
         slice_get_read gs (length gs) k page refl l (sym there) ∙ ap (λ x. Some (final_page (64 * x) es)) same,
-        subst (λ x. IsFinalBlock m columns (listed_work m columns) count rows x es) same is,
+        subst (λ x. IsFinalBlock m columns work count rows x es) same is,
       )
 
   finals_count : (i : ℕ) (gs : List Page) → FromPage i gs → length gs ≡ (count - 64 * i + 63) / 64 → length (finals_of gs) ≡ count - 64 * i
@@ -95,7 +95,7 @@ module _ (m : ℕ) (columns : ColumnList) (count : ℕ) (rows : ℕ → ℕ → 
       omega (arith, length-append (finals_of_page g) (finals_of gs), ap (λ p. length (finals_of_page p)) at, is.as_many, later)
 
   finals_written : (i : ℕ) (gs : List Page) → FromPage i gs → length gs ≡ (count - 64 * i + 63) / 64 → (j : ℕ) → j < count - 64 * i
-      → IsWritten m columns (listed_work m columns) (count_of columns) (rows (64 * i + j)) (get_or (finals_of gs) j no_entry).row
+      → IsWritten m columns work (count_of columns) (rows (64 * i + j)) (get_or (finals_of gs) j no_entry).row
       (get_or (finals_of gs) j no_entry).combination
   finals_written i [] h size j l = absurd (omega (arith, size, l))
   finals_written i (g ∷ gs) h size j l =
@@ -106,7 +106,7 @@ module _ (m : ℕ) (columns : ColumnList) (count : ℕ) (rows : ℕ → ℕ → 
             let e : FinalEntry = get_or es j no_entry in
             let same : e ≡ get_or (finals_of (g ∷ gs)) j no_entry =
             ap (λ p. get_or (finals_of_page p) j no_entry) (sym at) ∙ sym (get_or_append_left (finals_of_page g) (finals_of gs) no_entry j here) in
-            subst (λ (x : FinalEntry). IsWritten m columns (listed_work m columns) (count_of columns) (rows (64 * i + j)) x.row x.combination) same
+            subst (λ (x : FinalEntry). IsWritten m columns work (count_of columns) (rows (64 * i + j)) x.row x.combination) same
             (is.rows_are j e (slice_get-get_or es j no_entry (omega (arith, here, ap (λ p. length (finals_of_page p)) at))))
         | inr there ↦
             let k : ℕ = j - length (finals_of_page g) in
@@ -114,8 +114,8 @@ module _ (m : ℕ) (columns : ColumnList) (count : ℕ) (rows : ℕ → ℕ → 
             let same : get_or (finals_of gs) k no_entry ≡ get_or (finals_of (g ∷ gs)) j no_entry =
             sym (get_or-append_right (finals_of_page g) (finals_of gs) (length (finals_of_page g)) j no_entry refl there) in
             let row : 64 * suc i + k ≡ 64 * i + j = omega (arith, many, there, l, size_is) in
-            subst (λ (x : FinalEntry). IsWritten m columns (listed_work m columns) (count_of columns) (rows (64 * i + j)) x.row x.combination) same
-            (subst (λ z. IsWritten m columns (listed_work m columns) (count_of columns) (rows z) (get_or (finals_of gs) k no_entry).row
+            subst (λ (x : FinalEntry). IsWritten m columns work (count_of columns) (rows (64 * i + j)) x.row x.combination) same
+            (subst (λ z. IsWritten m columns work (count_of columns) (rows z) (get_or (finals_of gs) k no_entry).row
             (get_or (finals_of gs) k no_entry).combination) row
             (finals_written (suc i) gs (later_finals i g gs h) (omega (arith, size)) k (omega (arith, many, there, l, size_is))))
       ]
@@ -130,7 +130,7 @@ pub whole_pages_complete : (params : Params) (columns : ColumnList) → IsTableO
 whole_pages_complete params columns of converts count lead rows h n f g hf hg =
     let m : ℕ = params.modulus in
     let ps : List Page = Header params ∷ (f ++ (g ++ Done count ∷ [])) in
-    let from : FromPage m columns count rows 0 g = λ k l. let (es, at, is) = hg.each k l in let same : k ≡ 0 + k = omega arith in
+    let from : FromPage m columns (listed_work m columns) count rows 0 g = λ k l. let (es, at, is) = hg.each k l in let same : k ≡ 0 + k = omega arith in
     (es, at ∙ ap (λ x. Some (final_page (64 * x) es)) same, subst (λ x. IsFinalBlock m columns (listed_work m columns) count rows x es) same is) in
     let size : length g ≡ (count - 64 * 0 + 63) / 64 = omega (arith, hg.as_many) in
     let plain : finals_of f ≡ [] = no_finals f (all_from_places (λ p. finals_of_page p ≡ []) f
@@ -138,14 +138,14 @@ whole_pages_complete params columns of converts count lead rows h n f g hf hg =
     let finals : finals_of ps ≡ finals_of g =
     finals_of-append f (g ++ Done count ∷ []) ∙ ap (λ es. es ++ finals_of (g ++ Done count ∷ [])) plain ∙ finals_of-append g (Done count ∷ [])
     ∙ append-nil (finals_of g) in
-    let as_many : length (finals_of ps) ≡ count = ap length finals ∙ finals_count m columns count rows 0 g from size ∙ omega arith in
+    let as_many : length (finals_of ps) ≡ count = ap length finals ∙ finals_count m columns (listed_work m columns) count rows 0 g from size ∙ omega arith in
     let each : (i : ℕ) → i < count → IsWritten m columns (listed_work m columns) (count_of columns) (rows i) (get_or (finals_of ps) i no_entry).row
     (get_or (finals_of ps) i no_entry).combination = λ i l.
     let same : 64 * 0 + i ≡ i = omega arith in
     subst (λ (es : List FinalEntry). IsWritten m columns (listed_work m columns) (count_of columns) (rows i) (get_or es i no_entry).row
     (get_or es i no_entry).combination) (sym finals)
     (subst (λ z. IsWritten m columns (listed_work m columns) (count_of columns) (rows z) (get_or (finals_of g) i no_entry).row
-    (get_or (finals_of g) i no_entry).combination) same (finals_written m columns count rows 0 g from size i (omega (arith, l)))) in
+    (get_or (finals_of g) i no_entry).combination) same (finals_written m columns (listed_work m columns) count rows 0 g from size i (omega (arith, l)))) in
     let agree : (i : ℕ) → i < count → SameRow m (final_row ps i) (rows i) = λ i l q. let w = each i l in let r = w.is_row in
     ap (λ x. x % m) (sym (r.residues q)) ∙ same-mod m (rows i q) in
     let reduced : IsReducedRows m columns (values_of m columns) (count_of columns) count lead (final_row ps) =

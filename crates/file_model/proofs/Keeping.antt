@@ -42,7 +42,7 @@ module _ (m : ℕ) (columns : ColumnList) (table : IsTable m columns) (converts 
   Unbroken b = (k : ℕ) → k < 64 * b → k < count_of columns → (residue : ℕ) → ¬ (IsBrokenAt m columns (values_of m columns) k residue)
 
   -- the first forward pages are forward pages
-  first_blocks : (n j : ℕ) (fs : List Page) → AreForwardPages m columns (listed_work m columns) n fs → FromBlock m columns table converts 0 (take j fs)
+  first_blocks : (n j : ℕ) (fs : List Page) → AreForwardPages m columns (listed_work m columns) n fs → FromBlock m columns (listed_work m columns) 0 (take j fs)
   first_blocks n j fs h k l =
       let long : length (take j fs) ≡ min j (length fs) = length-take j fs in
       let (es, at, is) = h.each k (omega (arith, l, long, h.as_many)) in
@@ -55,7 +55,7 @@ module _ (m : ℕ) (columns : ColumnList) (table : IsTable m columns) (converts 
       )
 
   -- pages that keep what these forward pages keep
-  keeps : (pages fs : List Page) → FromBlock m columns table converts 0 fs → Unbroken (length fs) → entries_of pages ≡ entries_of fs
+  keeps : (pages fs : List Page) → FromBlock m columns (listed_work m columns) 0 fs → Unbroken (length fs) → entries_of pages ≡ entries_of fs
       → blocks_of pages ≡ blocks_of fs → IsTrueKept m columns (kept_of pages)
   keeps pages fs h un e b =
       let blocks : blocks_of pages ≡ length fs = b ∙ blocks_are m columns table converts 0 fs h in
@@ -78,7 +78,7 @@ module _ (m : ℕ) (columns : ColumnList) (table : IsTable m columns) (converts 
         let part : take j (fs ++ tail) ≡ fs ++ take i tail = ap (λ x. take x (fs ++ tail)) size ∙ take-append-add fs tail i in
         let rest : AllByRecursion IsPlain (take i tail) = all_take IsPlain i tail plain in
         let all : take (length fs) fs ≡ fs = take_all (length fs) fs (omega arith) in
-        keeps (Header params ∷ take j (fs ++ tail)) fs (subst (FromBlock m columns table converts 0) all (first_blocks n (length fs) fs h))
+        keeps (Header params ∷ take j (fs ++ tail)) fs (subst (FromBlock m columns (listed_work m columns) 0) all (first_blocks n (length fs) fs h))
         (λ k l. un k (omega (arith, l, h.as_many)))
         (ap entries_of part ∙ entries_of-append fs (take i tail) ∙ ap (λ es. entries_of fs ++ es) (plain_entries (take i tail) rest)
         ∙ append-nil (entries_of fs))

@@ -22,7 +22,7 @@ use Rattle.table_model.proofs.RowWords.{same-words_of_row}
 use Rattle.table_model.proofs.ForwardRowLaws.{accepted_has_forward_row}
 use Rattle.page_codec.specs.declared.parts.ForwardEntry.{ForwardEntry}
 use Rattle.page_codec.specs.declared.page.Page.{Page}
-use Rattle.file_model.specs.Pages.{IsPairs, IsWritten, IsForwardBlock, AreForwardPages, listed_work, forward_page, pairs_of}
+use Rattle.file_model.specs.Pages.{Work, IsPairs, IsWritten, IsForwardBlock, AreForwardPages, listed_work, forward_page, pairs_of}
 use Rattle.file_model.specs.Resuming.{entries_of_page, blocks_of_page, entries_of, blocks_of, row_in, combination_in}
 use Rattle.file_model.proofs.TrueRows.{IsTrueKept}
 
@@ -71,9 +71,46 @@ found (e ∷ es) n = elim (cases_eq e.number n) [
         only (zero, l, at) = at
         only (suc k, l, at) = absurd (omega arith)
 
+module _ (m : ℕ) (columns : ColumnList) (work : Work) where
+  -- pages from block b on
+  abbrev pub FromBlock : ℕ → List Page → Type 0
+  FromBlock b ps = (k : ℕ) → k < length ps → (es : List ForwardEntry) × (slice_get ps k ≡ Some (forward_page (64 * (b + k)) es))
+      × IsForwardBlock m columns work (b + k) es
+
+  -- the first forward pages are pages from block 0 on
+  pub from_start : (n : ℕ) (fs : List Page) → AreForwardPages m columns work n fs → FromBlock 0 fs
+  from_start n fs h k l =
+      let (es, at, is) = h.each k (omega (arith, l, h.as_many)) in
+      let same : k ≡ 0 + k = omega arith in
+      (es, at ∙ ap (λ x. Some (forward_page (64 * x) es)) same, subst (λ x. IsForwardBlock m columns work x es) same is)
+
+  pub first_page : (b : ℕ) (p : Page) (ps : List Page) → FromBlock b (p ∷ ps)
+      → (es : List ForwardEntry) × (p ≡ forward_page (64 * b) es) × IsForwardBlock m columns work b es
+  first_page b p ps h =
+      let (es, at, is) = h 0 (omega arith) in
+      let same : b + 0 ≡ b = omega arith in (
+        es,
+        get_or_from_slice_get (p ∷ ps) 0 (forward_page (64 * (b + 0)) es) p at ∙ ap (λ x. forward_page (64 * x) es) same,
+        subst (λ x. IsForwardBlock m columns work x es) same is,
+      )
+
+  pub later_pages : (b : ℕ) (p : Page) (ps : List Page) → FromBlock b (p ∷ ps) → FromBlock (suc b) ps
+  later_pages b p ps h k l =
+      let (es, at, is) = h (suc k) (omega (arith, l)) in
+      let same : b + suc k ≡ suc b + k = omega arith in
+      let page : Page = forward_page (64 * (b + suc k)) es in
+      let there : get_or ps k page ≡ page = get_or_from_slice_get (p ∷ ps) (suc k) page page at in (
+        es,
+        slice_get_read ps (length ps) k page refl l (sym there) ∙ ap (λ x. Some (forward_page (64 * x) es)) same,
+        subst (λ x. IsForwardBlock m columns work x es) same is,
+      )
+
 module _ (m : ℕ) (columns : ColumnList) (table : IsTable m columns) (converts : Converts m columns) where
   abbrev V : ℕ → Sum
   V = values_of m columns
+
+  abbrev W : Work
+  W = listed_work m columns
 
   -- past the last relation nothing is left
   past_in_span : (n : ℕ) → count_of columns ≤ n → InSumSpan m n V (V n)
@@ -98,73 +135,40 @@ module _ (m : ℕ) (columns : ColumnList) (table : IsTable m columns) (converts 
   pub record IsEntry (e : ForwardEntry) : Type 0 where
     pub accepted : IsAccepted m columns V e.number
     pub few : e.number < count_of columns
-    pub written : (p : ℕ → ℕ) → IsForwardRow m columns V e.number p → IsWritten m columns (listed_work m columns) (suc e.number) p e.row e.combination
-
-  -- pages from block b on
-  abbrev pub FromBlock : ℕ → List Page → Type 0
-  FromBlock b ps = (k : ℕ) → k < length ps → (es : List ForwardEntry) × (slice_get ps k ≡ Some (forward_page (64 * (b + k)) es)) × IsForwardBlock m columns
-      (listed_work m columns) (b + k) es
-
-  -- the first forward pages are pages from block 0 on
-  pub from_start : (n : ℕ) (fs : List Page) → AreForwardPages m columns (listed_work m columns) n fs → FromBlock 0 fs
-  from_start n fs h k l =
-      let (es, at, is) = h.each k (omega (arith, l, h.as_many)) in
-      let same : k ≡ 0 + k = omega arith in
-      (es, at ∙ ap (λ x. Some (forward_page (64 * x) es)) same, subst (λ x. IsForwardBlock m columns (listed_work m columns) x es) same is)
-
-  pub first_page : (b : ℕ) (p : Page) (ps : List Page) → FromBlock b (p ∷ ps)
-      → (es : List ForwardEntry) × (p ≡ forward_page (64 * b) es) × IsForwardBlock m columns (listed_work m columns) b es
-  first_page b p ps h =
-      let (es, at, is) = h 0 (omega arith) in
-      let same : b + 0 ≡ b = omega arith in (
-        es,
-        get_or_from_slice_get (p ∷ ps) 0 (forward_page (64 * (b + 0)) es) p at ∙ ap (λ x. forward_page (64 * x) es) same,
-        subst (λ x. IsForwardBlock m columns (listed_work m columns) x es) same is,
-      )
-
-  pub later_pages : (b : ℕ) (p : Page) (ps : List Page) → FromBlock b (p ∷ ps) → FromBlock (suc b) ps
-  later_pages b p ps h k l =
-      let (es, at, is) = h (suc k) (omega (arith, l)) in
-      let same : b + suc k ≡ suc b + k = omega arith in
-      let page : Page = forward_page (64 * (b + suc k)) es in
-      let there : get_or ps k page ≡ page = get_or_from_slice_get (p ∷ ps) (suc k) page page at in (
-        es,
-        slice_get_read ps (length ps) k page refl l (sym there) ∙ ap (λ x. Some (forward_page (64 * x) es)) same,
-        subst (λ x. IsForwardBlock m columns (listed_work m columns) x es) same is,
-      )
+    pub written : (p : ℕ → ℕ) → IsForwardRow m columns V e.number p → IsWritten m columns W (suc e.number) p e.row e.combination
 
   -- each entry of the pages is that of an accepted number
-  pub each_entry : (b : ℕ) (ps : List Page) → FromBlock b ps → (e : ForwardEntry) → Contains (entries_of ps) e → IsEntry e
+  pub each_entry : (b : ℕ) (ps : List Page) → FromBlock m columns W b ps → (e : ForwardEntry) → Contains (entries_of ps) e → IsEntry e
   each_entry b [] h e (k, l, at) = absurd (omega arith)
   each_entry b (p ∷ ps) h e c = elim (Contains-append_cases (entries_of_page p) (entries_of ps) e c) [
-    | inr later ↦ each_entry (suc b) ps (later_pages b p ps h) e later
+    | inr later ↦ each_entry (suc b) ps (later_pages m columns W b p ps h) e later
     | inl here ↦
-        let (es, at, is) = first_page b p ps h in
+        let (es, at, is) = first_page m columns W b p ps h in
         let (i, l, place) = subst (λ x. Contains (entries_of_page x) e) at here in
         let facts = (is.whole e.number).0 (Contains-map (λ (f : ForwardEntry). f.number) es e (i, l, place)) in
         record { accepted = facts.0; few = facts.3; written = is.rows i e (slice_get_read es (length es) i e refl l (sym place)) }
   ]
 
   -- each accepted number of their blocks has an entry
-  pub each_number : (b : ℕ) (ps : List Page) → FromBlock b ps → (n : ℕ) → IsAccepted m columns V n → n < count_of columns → 64 * b ≤ n
+  pub each_number : (b : ℕ) (ps : List Page) → FromBlock m columns W b ps → (n : ℕ) → IsAccepted m columns V n → n < count_of columns → 64 * b ≤ n
       → n < 64 * (b + length ps)
       → (e : ForwardEntry) × Contains (entries_of ps) e × (e.number ≡ n)
   each_number b [] h n is few from to = absurd (omega (arith, from, to))
   each_number b (p ∷ ps) h n is few from to = elim (cases_lt n (64 * b + 64)) [
     | inr later ↦
-        let (e, c, at) = each_number (suc b) ps (later_pages b p ps h) n is few (omega (arith, later)) (omega (arith, to)) in
+        let (e, c, at) = each_number (suc b) ps (later_pages m columns W b p ps h) n is few (omega (arith, later)) (omega (arith, to)) in
         (e, Contains-append_right (entries_of_page p) (entries_of ps) e c, at)
     | inl low ↦
-        let (es, at, page) = first_page b p ps h in
+        let (es, at, page) = first_page m columns W b p ps h in
         let (e, c, same) = Contains-from_map (λ (f : ForwardEntry). f.number) es n ((page.whole n).1 (is, from, low, few)) in
         (e, Contains-append_left (entries_of_page p) (entries_of ps) e (subst (λ x. Contains (entries_of_page x) e) (sym at) c), same)
   ]
 
-  pub blocks_are : (b : ℕ) (ps : List Page) → FromBlock b ps → blocks_of ps ≡ length ps
+  pub blocks_are : (b : ℕ) (ps : List Page) → FromBlock m columns W b ps → blocks_of ps ≡ length ps
   blocks_are b [] h = refl
   blocks_are b (p ∷ ps) h =
-      let (es, at, page) = first_page b p ps h in
-      omega (arith, ap blocks_of_page at, blocks_are (suc b) ps (later_pages b p ps h))
+      let (es, at, page) = first_page m columns W b p ps h in
+      omega (arith, ap blocks_of_page at, blocks_are (suc b) ps (later_pages m columns W b p ps h))
 
   -- pairs of a row give the row
   pairs_are : (p : ℕ → ℕ) (pairs : List (ℕ × ℕ)) → IsPairs m p pairs → SameRow m (pairs_of pairs) p
@@ -189,7 +193,7 @@ module _ (m : ℕ) (columns : ColumnList) (table : IsTable m columns) (converts 
       )
 
   -- forward pages from block 0 on keep what is true, where the work is not broken in their blocks
-  pub kept_is_true : (ps : List Page) → FromBlock 0 ps →
+  pub kept_is_true : (ps : List Page) → FromBlock m columns W 0 ps →
       ((k : ℕ) → k < 64 * length ps → k < count_of columns → (residue : ℕ) → ¬ (IsBrokenAt m columns V k residue))
       → IsTrueKept m columns (record { below = 64 * length ps; rows = row_in (entries_of ps); combinations = combination_in (entries_of ps) })
   kept_is_true ps h un = record {

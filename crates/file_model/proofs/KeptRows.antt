@@ -2,6 +2,7 @@
 use Rattle.std.specs.Prelude.{◌≡◌, ℕ, zero, suc, ◌+◌, ◌*◌, ◌%◌, ◌<◌, ◌≤◌, if◌then◌else◌, Some, List, [], ◌∷◌, length, take, slice_get, get_or}
 use Rattle.std.proofs.Common.{refl, sym, ◌∙◌, ap, subst, inl, inr, arith}
 use Rattle.std.proofs.Math.ListN.{get_or-map}
+use Rattle.zeta_model.specs.Inverses.{HasInverse}
 use Rattle.std.specs.List.{AllByRecursion, Contains}
 use Rattle.std.proofs.lemmas.Bool.{cases_eq, cases_order, eq-eqb, ne_eqb}
 use Rattle.std.proofs.lemmas.List.{length-map, length-take, get_or-take}
@@ -27,7 +28,8 @@ use Rattle.file_model.proofs.SamePages.{number_stands}
 use Rattle.file_model.proofs.KeptPages.{Found, found}
 use Rattle.file_model.proofs.ListPlaces.{all_contains, contained_at, place_of}
 use Rattle.file_model.proofs.NumberRanges.{AreInBlocks}
-use Rattle.file_model.proofs.SealedBlocks.{IsFitting, IsBlock, Blocks, sealed_blocks, block_numbers, all_numbers, all_fitting}
+use Rattle.file_model.proofs.SealedBlocks.{IsFitting, IsBlock, Blocks, HaveBlocks, sealed_blocks, block_numbers, all_numbers, all_fitting}
+use Rattle.file_model.proofs.WritableWork.{AreBeside}
 
 -- ---- pairs
 
@@ -62,6 +64,12 @@ before_lead low (e ∷ es) r j l = entry_of_before (λ k. k) 0 (λ v. v) e.0 j (
 
 abbrev no_entry : ForwardEntry
 no_entry = record { number = 0; row = []; combination = [] }
+
+-- the rows are those of the entries, in order
+pub record AreOfEntries (m : ℕ) (columns : ColumnList) (entries : List ForwardEntry) (kept : Kept) (rows : AreForward m columns kept) : Type 0 where
+  pub count : rows.count ≡ length entries
+  pub each : (i : ℕ) (e : ForwardEntry) → slice_get entries i ≡ Some e → (rows.number i ≡ e.number) × (rows.lead i ≡ lead_of e.row)
+      × (e.number < count_of columns) × ((col : ℕ) → kept.rows (rows.number i) col ≡ pairs_of e.row col)
 
 module _ (params : Params) (columns : ColumnList) (of : IsTableOf params columns) (fs : List Page) where
   abbrev m : ℕ
@@ -163,6 +171,9 @@ module _ (params : Params) (columns : ColumnList) (of : IsTableOf params columns
     row_at : (i : ℕ) → i < length L → (col : ℕ) → row_in L (number_of i) col ≡ pairs_of (entry_at i).row col
     row_at i l = (entry_kept (entry_at i) (held_at i l)).0
 
+    combination_at : (i : ℕ) → i < length L → (k : ℕ) → combination_in L (number_of i) k ≡ pairs_of (entry_at i).combination k
+    combination_at i l = (entry_kept (entry_at i) (held_at i l)).1
+
     earlier_at : (i k : ℕ) → k < i → i < length L → slice_get (take i L) k ≡ Some (entry_at k)
     earlier_at i k l inside =
         let low : k < length L = omega (arith, l, inside) in
@@ -202,6 +213,56 @@ module _ (params : Params) (columns : ColumnList) (of : IsTableOf params columns
         no_row n none col (inl (e, (i, l, at), same, row, combination)) =
             let own : entry_at i ≡ e = get_or_from_slice_get L i e no_entry (slice_get_read L (length L) i e refl l (sym at)) in
             absurd (none i l (ap (λ (x : ForwardEntry). x.number) own ∙ same))
+
+    pub rows_of_entries : AreOfEntries m columns L K rows_forward
+    unfolding rows_forward
+    rows_of_entries = record {
+      count = refl;
+      each = λ i e at.
+          let l : i < length L = slice_get_within L i e at in
+          let own : entry_at i ≡ e = get_or_from_slice_get L i e no_entry at in
+          let f : IsFitting params N (entry_at i) = fit_at (entry_at i) (held_at i l) in
+          let t = f.table in
+          let few : number_of i < N = t.number in (
+            ap (λ (x : ForwardEntry). x.number) own,
+            ap (λ (x : ForwardEntry). lead_of x.row) own,
+            omega (arith, few, relations, ap (λ (x : ForwardEntry). x.number) own),
+            λ col. row_at i l col ∙ ap (λ (x : ForwardEntry). pairs_of x.row col) own,
+          );
+    }
+
+    -- ---- what stands beside the rows
+
+    -- a number of the entries before place i is that of an earlier place
+    earlier_number : (i q : ℕ) → i < length L → Contains (numbers_of (take i L)) q → (j : ℕ) × (j < length L) × (number_of j ≡ q)
+    earlier_number i q l c =
+        let (e, held, same) = Contains-from_map (λ (g : ForwardEntry). g.number) (take i L) q c in
+        let (j, lj, at) = held in
+        let early : j < i = omega (arith, lj, length-take i L) in
+        let place : get_or L j e ≡ e = sym (get_or-take i L j e early) ∙ at in
+        let own : entry_at j ≡ e = get_or_from_slice_get L j e no_entry (slice_get_read L (length L) j e refl (omega (arith, early, l)) (sym place)) in
+        (j, omega (arith, early, l), ap (λ (x : ForwardEntry). x.number) own ∙ same)
+
+    pub rows_beside : AreBeside m columns K rows_forward
+    unfolding rows_forward
+    rows_beside = record {
+      none = λ n none q. no_combination n none q (found L n);
+      past = λ n q l. none_past n q l (found L n);
+      own = λ i l. let s = suit i (entry_at i) (there i l) in subst (HasInverse m) (sym (combination_at i l (number_of i))) s.own;
+      others = λ i q l some ne. let s = suit i (entry_at i) (there i l) in
+          earlier_number i q l (s.others q (λ z. some (combination_at i l q ∙ z)) ne);
+    }
+      where
+        no_combination : (n : ℕ) → ((i : ℕ) → i < length L → ¬ (number_of i ≡ n)) → (q : ℕ) → Found L n → combination_in L n q ≡ 0
+        no_combination n none q (inr (absent, row, combination)) = combination q
+        no_combination n none q (inl (e, (i, l, at), same, row, combination)) =
+            let own : entry_at i ≡ e = get_or_from_slice_get L i e no_entry (slice_get_read L (length L) i e refl l (sym at)) in
+            absurd (none i l (ap (λ (x : ForwardEntry). x.number) own ∙ same))
+
+        none_past : (n q : ℕ) → n < q → Found L n → combination_in L n q ≡ 0
+        none_past n q l (inr (absent, row, combination)) = combination q
+        none_past n q l (inl (e, c, same, row, combination)) =
+            combination q ∙ pairs_past (e.number + 1) m e.combination (combination_within e (fit_at e c)) q (omega (arith, same, l))
 
     -- ---- the page of a block
 
@@ -311,6 +372,15 @@ module _ (params : Params) (columns : ColumnList) (of : IsTableOf params columns
             let (j, lj, place) = back (entry_at i) (held_at i l) (omega (arith, from, same)) (omega (arith, to, same)) in
             subst (Contains (numbers_of es)) same (number_stands es j (entry_at i) (slice_get_read es (length es) j (entry_at i) refl lj (sym place)))
 
+-- sealed pages keep what their forward pages keep
+pub kept_blocks : (params : Params) (n : ℕ) (sealed : List Page) (h : HaveBlocks params n sealed)
+    → record { below = 64 * length h.blocks; rows = row_in (entries_of h.blocks); combinations = combination_in (entries_of h.blocks) } ≡ kept_of sealed
+kept_blocks params n sealed h = λ i. record {
+  below = 64 * sym h.blocks_are i;
+  rows = row_in (sym h.entries_are i);
+  combinations = combination_in (sym h.entries_are i);
+}
+
 -- the pages that are sealed keep a forward list, and each forward page of theirs holds its rows
 pub sealed_kept : (params : Params) (columns : ColumnList) → IsTableOf params columns → (sealed : List Page) → AllByRecursion IsPage sealed
     → AllFit params (relation_count params.weight params.depth) sealed → AllSuit params.modulus (entries_of sealed)
@@ -318,20 +388,10 @@ pub sealed_kept : (params : Params) (columns : ColumnList) → IsTableOf params 
     → slice_get sealed (suc b) ≡ Some (forward_page (64 * b) es) → AreKept params.modulus columns (kept_of sealed) rows b es)
 sealed_kept params columns of sealed is fit suit =
     let h = sealed_blocks params (relation_count params.weight params.depth) sealed is fit in
-    let same : record {
-      below = 64 * length h.blocks;
-      rows = row_in (entries_of h.blocks);
-      combinations =
-          combination_in (entries_of h.blocks);
-    } ≡ kept_of sealed =
-    λ i. record {
-      below = 64 * sym h.blocks_are i;
-      rows = row_in (sym h.entries_are i);
-      combinations = combination_in (sym h.entries_are i);
-    } in
     let suits : AllSuit params.modulus (entries_of h.blocks) = subst (AllSuit params.modulus) h.entries_are suit in
     subst (λ k. (rows : AreForward params.modulus columns k) × ((b : ℕ) (es : List ForwardEntry) → b < blocks_of sealed
-    → slice_get sealed (suc b) ≡ Some (forward_page (64 * b) es) → AreKept params.modulus columns k rows b es)) same (
+    → slice_get sealed (suc b) ≡ Some (forward_page (64 * b) es) → AreKept params.modulus columns k rows b es))
+    (kept_blocks params (relation_count params.weight params.depth) sealed h) (
       rows_forward params columns of h.blocks h.are suits,
       λ b es l at.
           page_kept params columns of h.blocks h.are suits b es

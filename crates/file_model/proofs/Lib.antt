@@ -18,6 +18,7 @@ pub mod OneAnswer
 pub mod SuitingRows
 pub mod KeptStay
 pub mod NextPages
+pub mod WritableWork
 pub mod SomePairs
 pub mod SomePages
 pub mod PagesExist
@@ -35,3 +36,8 @@ pub mod SealedPages
 pub mod SealedBlocks
 pub mod KeptRows
 pub mod SealedStay
+pub mod ResumedPages
+pub mod ForwardSpans
+pub mod FollowingRows
+pub mod PastSteps
+pub mod GoneOn

@@ -74,3 +74,11 @@ contained_at xs i x at = subst (Contains xs) (get_or_from_slice_get xs i x x at)
 
 pub place_of : {X : Type 0} (xs : List X) (i : ℕ) (x : X) → i < length xs → get_or xs i x ≡ x → slice_get xs i ≡ Some x
 place_of xs i x l at = slice_get_read xs (length xs) i x refl l (sym at)
+
+-- the first items of a list are those of another where the same stands at each of their places
+pub first_places : {X : Type 0} (xs ys : List X) → ((i : ℕ) → i < length xs → slice_get xs i ≡ slice_get ys i) → take (length xs) ys ≡ xs
+first_places [] ys h = refl
+first_places (x ∷ xs) [] h = absurd (cc (h 0 (omega arith)))
+first_places (x ∷ xs) (y ∷ ys) h =
+    let first : y ≡ x = get_or_from_slice_get (y ∷ ys) 0 x y (sym (h 0 (omega arith))) in
+    λ j. first j ∷ first_places xs ys (λ i l. h (suc i) (omega (arith, l))) j

@@ -2,30 +2,25 @@
 use Rattle.std.specs.Prelude.{◌≡◌, ℕ, zero, suc, ◌<◌, ◌≤◌, List, [], ◌∷◌, ◌++◌, length, take}
 use Rattle.std.proofs.Common.{refl, sym, ◌∙◌, ap, subst, arith}
 use Rattle.std.specs.List.{AllByRecursion}
-use Rattle.column_order.specs.Columns.{ColumnList}
 use Rattle.page_codec.specs.declared.params.Params.{Params}
 use Rattle.page_codec.specs.declared.page.Page.{Page}
 use Rattle.page_codec.specs.Bounds.{IsPage}
 use Rattle.page_file.specs.Files.{Stops, opened, file_of}
 use Rattle.page_file.proofs.Reading.{sealed_unique, file_reads}
-use Rattle.table_model.proofs.CompleteRows.{listed_value-table}
-use Rattle.file_model.specs.TableOf.{IsTableOf}
-use Rattle.file_model.specs.Pages.{IsWork, ArePages, listed_work}
+use Rattle.file_model.specs.Pages.{ArePages, listed_work}
 use Rattle.file_model.specs.Prefixes.{IsPages, IsFile, IsPrefix}
 use Rattle.file_model.proofs.ParamColumns.{same_columns}
 use Rattle.file_model.proofs.ListPlaces.{all_take}
 use Rattle.file_model.proofs.OnePages.{pages_unique}
-
-pub is_listed_work : (params : Params) (columns : ColumnList) → IsTableOf params columns → IsWork params.modulus columns (listed_work params.modulus columns)
-is_listed_work params columns of =
-    record { sums = listed_value-table params.modulus columns of.table; beside = λ c d e. e; linear = λ a b c d j. refl }
+use Rattle.file_model.proofs.WritableWork.{is_listed_work}
 
 pub one_pages : (params : Params) (ps qs : List Page) → IsPages params ps → IsPages params qs → ps ≡ qs
 one_pages params ps qs a b =
     let e : a.columns ≡ b.columns = same_columns params a.columns b.columns a.are_columns b.are_columns in
     let moved : ArePages params b.columns (listed_work params.modulus b.columns) ps =
     subst (λ c. ArePages params c (listed_work params.modulus c) ps) e a.are_pages in
-    pages_unique params b.columns (listed_work params.modulus b.columns) (is_listed_work params b.columns b.are_columns) b.are_columns ps qs moved b.are_pages
+    let t = b.are_columns in
+    pages_unique params b.columns (listed_work params.modulus b.columns) (is_listed_work params.modulus b.columns t.table) b.are_columns ps qs moved b.are_pages
 
 pub one_file : (params : Params) (a b : List ℕ) → IsFile params a → IsFile params b → a ≡ b
 one_file params a b x y = x.bytes_are ∙ ap file_of (one_pages params x.pages y.pages x.are_pages y.are_pages) ∙ sym y.bytes_are

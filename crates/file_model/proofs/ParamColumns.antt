@@ -1,10 +1,12 @@
 -- The columns of parameters.
-use Rattle.std.specs.Prelude.{◌≡◌, length}
+use Rattle.std.specs.Prelude.{◌≡◌, ◌≤◌, length}
 use Rattle.std.proofs.Common.{refl, sym, ◌∙◌, subst, arith}
 use Rattle.column_order.specs.declared.ranks.Preference.{Preference}
 use Rattle.column_order.specs.Ranks.{rank_of}
 use Rattle.column_order.specs.Columns.{ColumnList, IsColumnList, IsColumns, HasLimits, column_count}
 use Rattle.column_order.proofs.ColumnLists.{one_list, some_list, length-columns}
+use Rattle.relation_list.proofs.ListingLengths.{listing-small}
+use Rattle.zeta_model.proofs.WordListLaws.{length-admissible_within}
 use Rattle.page_codec.specs.declared.params.Params.{Params}
 use Rattle.page_codec.specs.Bounds.{IsParams}
 use Rattle.page_codec.specs.Tests.{mode_of}
@@ -39,6 +41,12 @@ pub relations_are : (params : Params) (columns : ColumnList) → IsTableOf param
 relations_are params columns of = λ i. relation_count (of.weight i) (of.depth i)
 
 module _ (params : Params) (fits : IsParams params) where
+  -- a number of relations has 32 bits
+  pub relations_few : relation_count params.weight params.depth ≤ 1179648
+  unfolding relation_count
+  relations_few = listing-small params.weight params.depth fits.weight_to
+      (let few = fits.columns in omega (arith, few, length-admissible_within params.weight params.depth fits.weight_from))
+
   -- parameters in range have these
   pub table_of : (columns : ColumnList) → IsColumns columns → columns.weight ≡ params.weight → columns.depth ≡ params.depth
       → columns.preference.mode ≡ mode_of params.order → columns.preference.words ≡ params.preferred → IsTableOf params columns

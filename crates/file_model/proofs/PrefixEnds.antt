@@ -83,12 +83,12 @@ module _ (params : Params) (columns : ColumnList) (of : IsTableOf params columns
       let size : length f ≡ n / 64 = hf.as_many in
       let same : pages ≡ Header params ∷ (f ++ []) = x ∙ ap (λ qs. Header params ∷ qs) (sym (append-nil f)) in
       subst (AllSuit m) (sym (ap entries_of same ∙ forward_entries f [] tt))
-      (pages_suit m columns of.table c f (from_start m columns of.table c (n / 64) f hf) (λ k lk few. b.1 k (omega (arith, lk, size))))
+      (pages_suit m columns of.table c f (from_start m columns (listed_work m columns) (n / 64) f hf) (λ k lk few. b.1 k (omega (arith, lk, size))))
   all_suit pages converts (whole c un count lead rows h f g hf hg x) =
       let plain : AllByRecursion IsPlain (g ++ Done count ∷ []) =
       all_append IsPlain g (Done count ∷ []) (final_plain m columns count rows g hg) ((refl, refl), tt) in
       subst (AllSuit m) (sym (ap entries_of x ∙ forward_entries f (g ++ Done count ∷ []) plain))
-      (pages_suit m columns of.table c f (from_start m columns of.table c (block_count (count_of columns)) f hf) (λ k lk few. un k few))
+      (pages_suit m columns of.table c f (from_start m columns (listed_work m columns) (block_count (count_of columns)) f hf) (λ k lk few. un k few))
 
   module _ (fits : IsParams params) (k : ℕ) (bytes : List ℕ) (p : IsPrefix params k bytes) where
     abbrev sealed : List Page

@@ -1,19 +1,40 @@
 -- What is written beside sums of recorded rows.
-use Rattle.std.specs.Prelude.{◌≡◌, ℕ, suc, ◌+◌, ◌*◌, ◌%◌, cond, eqb, List, length}
+use Rattle.std.specs.Prelude.{◌≡◌, ℕ, zero, suc, ◌+◌, ◌*◌, ◌%◌, ◌<◌, ◌≤◌, cond, eqb, List, length}
 use Rattle.std.proofs.Common.{refl, sym, ◌∙◌, ap, subst, inl, inr, arith}
 use Rattle.std.proofs.lemmas.Bool.{cases_eq, ne_eqb}
 use Rattle.zeta_model.specs.declared.Letter.{Letter}
 use Rattle.zeta_model.specs.Modular.{Same}
 use Rattle.zeta_model.specs.Sums.{Sum, SameSum}
-use Rattle.zeta_model.proofs.ModularLemmas.{same-add, same-add_left, same-mul_left, same-mul_right}
+use Rattle.zeta_model.proofs.ModularLemmas.{same-mod, same-add, same-add_left, same-mul_left, same-mul_right}
+use Rattle.linear_model.specs.Rows.{total, combination, SameRow}
 use Rattle.column_order.specs.Columns.{ColumnList}
 use Rattle.table_model.specs.MonomialWords.{column_at, words_of_monomial, sum_combination, words_of_row}
 use Rattle.table_model.specs.ReducedRows.{IsAccepted}
 use Rattle.linear_model.proofs.Combinations.{combination-one}
 use Rattle.table_model.proofs.SumSpans.{sum_combination-add, sum_combination-scaled}
-use Rattle.file_model.specs.Pages.{Work, IsWork, Pairs, IsPairs, IsWritten, IsRecorded}
+use Rattle.table_model.proofs.RowWords.{same-words_of_row}
+use Rattle.file_model.specs.Pages.{Work, IsWork, Pairs, pairs_of, IsPairs, IsWritten, IsRecorded}
+
+-- pairs of a row are that row modulo m
+pub pairs_same : (m : ℕ) (p : ℕ → ℕ) (pairs : Pairs) → IsPairs m p pairs → SameRow m p (pairs_of pairs)
+pairs_same m p pairs h q = sym (same-mod m (p q)) ∙ ap (λ x. x % m) (h.residues q)
+
+zero_total : (n : ℕ) (f : ℕ → ℕ) → total n (λ i. 0 * f i) ≡ 0
+zero_total zero f = refl
+zero_total (suc n) f = omega (arith, zero_total n f)
 
 module _ (m : ℕ) (columns : ColumnList) (work : Work) where
+  pub recorded_same : (n : ℕ) (p q g h : ℕ → ℕ) → SameRow m p q → SameRow m g h → IsRecorded m columns work n p g → IsRecorded m columns work n q h
+  recorded_same n p q g h pq gh r = let c = r.is_combination in record {
+    coefficients = r.coefficients;
+    is_combination = record {
+      accepted = c.accepted;
+      within = c.within;
+      evaluates = λ t. same-words_of_row m columns q p (λ col. sym (pq col)) t ∙ c.evaluates t;
+    };
+    written = λ k. r.written k ∙ gh k;
+  }
+
   -- what is recorded over the numbers below n is so over one more
   pub recorded_more : (n : ℕ) (p g : ℕ → ℕ) → IsRecorded m columns work n p g → IsRecorded m columns work (suc n) p g
   recorded_more n p g h =
@@ -34,6 +55,14 @@ module _ (m : ℕ) (columns : ColumnList) (work : Work) where
               ∙ ap (λ x. x % m) (let z : 0 * work.sums n t ≡ 0 = omega arith in z)));
         };
       }
+
+  -- and over any more
+  pub recorded_upto : (k n : ℕ) → n ≤ k → (p g : ℕ → ℕ) → IsRecorded m columns work n p g → IsRecorded m columns work k p g
+  recorded_upto zero n l p g r = subst (λ x. IsRecorded m columns work x p g) (omega arith) r
+  recorded_upto (suc k) n l p g r = elim (cases_eq n (suc k)) [
+    | inl at ↦ subst (λ x. IsRecorded m columns work x p g) at r
+    | inr ne ↦ recorded_more k p g (recorded_upto k n (omega arith) p g r)
+  ]
 
   -- a sum of two recorded rows is recorded with the same sum
   pub recorded_sum : IsWork m columns work → (n a b : ℕ) (p q g h : ℕ → ℕ) → IsRecorded m columns work n p g → IsRecorded m columns work n q h
@@ -96,3 +125,43 @@ module _ (m : ℕ) (columns : ColumnList) (work : Work) where
         is_written =
             record { row = hc.row; residues = λ q. h.written q ∙ hc.residues q };
       }
+
+  -- pairs that are written are recorded
+  pub recorded_written : (n : ℕ) (p : ℕ → ℕ) (row combination : Pairs) → IsWritten m columns work n p row combination
+      → IsRecorded m columns work n (pairs_of row) (pairs_of combination)
+  recorded_written n p row combination w =
+      recorded_same n p (pairs_of row) (work.beside w.coefficients) (pairs_of combination) (pairs_same m p row w.is_row)
+      (pairs_same m (work.beside w.coefficients) combination w.is_written)
+      (record { coefficients = w.coefficients; is_combination = w.is_combination; written = λ k. refl })
+
+  module _ (is_work : IsWork m columns work) (n : ℕ) where
+    -- a recorded row and a sum of such
+    pub recorded_combination : (a : ℕ) (p g : ℕ → ℕ) → IsRecorded m columns work n p g → (count : ℕ) (rows gs : ℕ → ℕ → ℕ) (c : ℕ → ℕ)
+        → ((i : ℕ) → i < count → IsRecorded m columns work n (rows i) (gs i))
+        → IsRecorded m columns work n (λ q. a * p q + combination count rows c q) (λ q. a * g q + combination count gs c q)
+    recorded_combination a p g r zero rows gs c each =
+        recorded_same n (λ q. a * p q + 0 * p q) (λ q. a * p q + 0) (λ q. a * g q + 0 * g q) (λ q. a * g q + 0)
+        (λ q. ap (λ x. x % m) (omega arith)) (λ q. ap (λ x. x % m) (omega arith)) (recorded_sum is_work n a 0 p p g g r r)
+    recorded_combination a p g r (suc count) rows gs c each =
+        recorded_same n (λ q. 1 * (a * p q + combination count rows c q) + c count * rows count q)
+        (λ q. a * p q + (combination count rows c q + c count * rows count q))
+        (λ q. 1 * (a * g q + combination count gs c q) + c count * gs count q) (λ q. a * g q + (combination count gs c q + c count * gs count q))
+        (λ q. ap (λ x. x % m) (omega arith)) (λ q. ap (λ x. x % m) (omega arith))
+        (recorded_sum is_work n 1 (c count) (λ q. a * p q + combination count rows c q) (rows count)
+        (λ q. a * g q + combination count gs c q) (gs count)
+        (recorded_combination a p g r count rows gs c (λ i l. each i (omega arith))) (each count (omega arith)))
+
+module _ (m : ℕ) (columns : ColumnList) (work : Work) (is_work : IsWork m columns work) (n : ℕ) where
+  -- the row without entries
+  pub recorded_zero : IsRecorded m columns work n (λ _. 0) (λ _. 0)
+  recorded_zero = record {
+    coefficients = λ _. 0;
+    is_combination = record {
+      accepted = λ k l none. refl;
+      within = λ k l. refl;
+      evaluates = λ t. ap (λ x. x % m) (zero_total (length columns.list) (λ col. words_of_monomial (column_at columns.list col) t)
+          ∙ sym (zero_total n (λ i. work.sums i t)));
+    };
+    written = λ j. is_work.beside (λ _. 0) (λ k. 0 * 0 + 0 * 0) (λ k. ap (λ x. x % m) (omega arith)) j
+        ∙ is_work.linear 0 0 (λ _. 0) (λ _. 0) j ∙ ap (λ x. x % m) (omega arith);
+  }

@@ -1,5 +1,5 @@
 -- Sealed pages that fit their places: the header, forward pages block by block, and pages that keep nothing.
-use Rattle.std.specs.Prelude.{◌≡◌, ℕ, zero, suc, ◌+◌, ◌*◌, ◌<◌, ◌≤◌, Some, List, [], ◌∷◌, ◌++◌, length, slice_get}
+use Rattle.std.specs.Prelude.{◌≡◌, ℕ, zero, suc, ◌+◌, ◌-◌, ◌*◌, ◌<◌, ◌≤◌, min, Some, List, [], ◌∷◌, ◌++◌, length, slice_get}
 use Rattle.std.proofs.Common.{refl, sym, ◌∙◌, ap, subst, inl, inr, arith}
 use Rattle.std.specs.List.{AllByRecursion}
 use Rattle.std.specs.List.Sorted.{IsStrictlySortedBy}
@@ -64,21 +64,23 @@ record IsParted (params : Params) (n b : ℕ) (pages : List Page) : Type 0 where
   parts : pages ≡ blocks ++ tail
   are : Blocks params n b blocks
   plain : AllByRecursion IsPlain tail
+  counted : length blocks + b ≡ min (length pages + b) (block_count n)
 
-all_plain : (params : Params) (n b : ℕ) (pages : List Page) → AllByRecursion IsPlain pages → IsParted params n b pages
-all_plain params n b pages h = record { blocks = []; tail = pages; parts = refl; are = tt; plain = h }
+all_plain : (params : Params) (n b : ℕ) (pages : List Page) → AllByRecursion IsPlain pages → b ≡ min (length pages + b) (block_count n)
+    → IsParted params n b pages
+all_plain params n b pages h counted = record { blocks = []; tail = pages; parts = refl; are = tt; plain = h; counted = omega (arith, counted) }
 
-parted : (params : Params) (n b : ℕ) (before pages : List Page) → length before ≡ 1 + b → last_of before ≡ FrontPage → AllByRecursion IsPage pages
-    → FitBehind params n before pages → IsParted params n b pages
-parted params n b before [] size last is h = all_plain params n b [] tt
-parted params n b before (Header q ∷ pages) size last is h = let none : length before ≡ 0 = ap length h.0.0 in absurd (omega (arith, none, size))
-parted params n b before (Forward q ∷ pages) size last is h =
+parted : (params : Params) (n b : ℕ) (before pages : List Page) → length before ≡ 1 + b → b ≤ block_count n → last_of before ≡ FrontPage
+    → AllByRecursion IsPage pages → FitBehind params n before pages → IsParted params n b pages
+parted params n b before [] size most last is h = all_plain params n b [] tt (omega (arith, most))
+parted params n b before (Header q ∷ pages) size most last is h = let none : length before ≡ 0 = ap length h.0.0 in absurd (omega (arith, none, size))
+parted params n b before (Forward q ∷ pages) size most last is h =
     let fits = h.0 in
     let page = is.0 in
     let first : q.first ≡ 64 * b = omega (arith, fits.first, size) in
     let chain : AreForward (64 * b) (64 * b + 64) q.entries = subst (λ x. AreForward x (x + 64) q.entries) first page.entries in
     let rest = parted params n (suc b) (before ++ Forward q ∷ []) pages (omega (arith, size, length-append before (Forward q ∷ [])))
-    (last_of-push before (Forward q)) is.1 h.1 in record {
+    (omega (arith, fits.within, size)) (last_of-push before (Forward q)) is.1 h.1 in record {
       blocks = Forward q ∷ rest.blocks;
       tail = rest.tail;
       parts = ap (λ ps. Forward q ∷ ps) rest.parts;
@@ -91,21 +93,22 @@ parted params n b before (Forward q ∷ pages) size last is h =
         rest.are,
       );
       plain = rest.plain;
+      counted = omega (arith, rest.counted);
     }
-parted params n b before (Final q ∷ pages) size last is h =
+parted params n b before (Final q ∷ pages) size most last is h =
     let fits = h.0 in
     let long : block_count n + 1 ≤ length before = elim fits.first [
       | inl f ↦ omega (arith, f.0)
       | inr f ↦ let other = final_last before f.0 f.1 in absurd (cc (last, other))
     ] in
-    all_plain params n b (Final q ∷ pages) (plain_behind params n before (Final q ∷ pages) long h)
-parted params n b before (Done rows ∷ pages) size last is h =
+    all_plain params n b (Final q ∷ pages) (plain_behind params n before (Final q ∷ pages) long h) (omega (arith, long, size, most))
+parted params n b before (Done rows ∷ pages) size most last is h =
     let fits = h.0 in
     let long : block_count n + 1 ≤ length before = elim fits.behind [
       | inl f ↦ omega (arith, f)
       | inr f ↦ let other = final_last before f.0 f.1 in absurd (cc (last, other))
     ] in
-    all_plain params n b (Done rows ∷ pages) (plain_behind params n before (Done rows ∷ pages) long h)
+    all_plain params n b (Done rows ∷ pages) (plain_behind params n before (Done rows ∷ pages) long h) (omega (arith, long, size, most))
 
 -- what sealed pages keep is what their forward pages keep
 pub record HaveBlocks (params : Params) (n : ℕ) (pages : List Page) : Type 0 where
@@ -113,6 +116,7 @@ pub record HaveBlocks (params : Params) (n : ℕ) (pages : List Page) : Type 0 w
   pub are : Blocks params n 0 blocks
   pub entries_are : entries_of pages ≡ entries_of blocks
   pub blocks_are : blocks_of pages ≡ length blocks
+  pub counted : length blocks ≡ min (length pages - 1) (block_count n)
   pub forward_is : (k : ℕ) (page : Page) → slice_get blocks k ≡ Some page → slice_get pages (suc k) ≡ Some page
 
 blocks_count : (params : Params) (n b : ℕ) (fs : List Page) → Blocks params n b fs → blocks_of fs ≡ length fs
@@ -140,17 +144,18 @@ have_blocks params n q pages h = record {
   entries_are = ap entries_of h.parts ∙ entries_of-append h.blocks h.tail ∙ ap (λ es. entries_of h.blocks ++ es) (plain_entries h.tail h.plain)
       ∙ append-nil (entries_of h.blocks);
   blocks_are = omega (arith, ap blocks_of h.parts, blocks_of-append h.blocks h.tail, plain_blocks h.tail h.plain, blocks_count params n 0 h.blocks h.are);
+  counted = omega (arith, h.counted);
   forward_is = λ k page at.
       behind_first_page k (Header q) pages page (subst (λ ps. slice_get ps k ≡ Some page) (sym h.parts) (at_front k h.blocks h.tail page at));
 }
 
 pub sealed_blocks : (params : Params) (n : ℕ) (pages : List Page) → AllByRecursion IsPage pages → FitBehind params n [] pages → HaveBlocks params n pages
 sealed_blocks params n [] is h =
-    record { blocks = []; are = tt; entries_are = refl; blocks_are = refl; forward_is = λ k page at. absurd (none k page at) }
+    record { blocks = []; are = tt; entries_are = refl; blocks_are = refl; counted = omega arith; forward_is = λ k page at. absurd (none k page at) }
   where
     none : (k : ℕ) (page : Page) → slice_get [] k ≡ Some page → ⊥
     none k page at = let l : k < 0 = slice_get_within [] k page at in omega (arith, l)
-sealed_blocks params n (Header q ∷ pages) is h = have_blocks params n q pages (parted params n 0 (Header q ∷ []) pages refl refl is.1 h.1)
+sealed_blocks params n (Header q ∷ pages) is h = have_blocks params n q pages (parted params n 0 (Header q ∷ []) pages refl (omega arith) refl is.1 h.1)
 sealed_blocks params n (Forward q ∷ pages) is h = let fits = h.0 in absurd (let l : 1 ≤ 0 = fits.behind_header in omega (arith, l))
 sealed_blocks params n (Final q ∷ pages) is h =
     let fits = h.0 in elim fits.first [

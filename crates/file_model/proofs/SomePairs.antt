@@ -8,11 +8,11 @@ use Rattle.column_order.specs.Columns.{ColumnList}
 use Rattle.sparse_rows.specs.Entries.{IsRow}
 use Rattle.table_model.specs.MonomialWords.{words_of_row}
 use Rattle.table_model.specs.Conversion.{IsTable, Converts, IsOver}
-use Rattle.table_model.specs.ListedSpan.{InSumSpan, values_of}
+use Rattle.table_model.specs.ListedSpan.{InSumSpan}
 use Rattle.table_model.specs.ReducedRows.{IsUnbroken}
-use Rattle.table_model.proofs.CompleteRows.{listed_value-table}
 use Rattle.table_model.proofs.CombinationLaws.{combination_exists}
-use Rattle.file_model.specs.Pages.{Pairs, IsPairs, IsWritten, listed_work, pairs_of}
+use Rattle.file_model.specs.Pages.{Work, IsWork, Pairs, IsPairs, IsWritten, pairs_of}
+use Rattle.file_model.proofs.WritableWork.{IsWritable, combination_accepted}
 
 later_row : (low high : ℕ) (es : Pairs) → low ≤ high → IsRow (λ k. k) 0 high es → IsRow (λ k. k) 0 low es
 later_row low high [] l h = tt
@@ -71,14 +71,15 @@ pairs_exist m pos p n zeros =
       },
     )
 
--- a row of the span of the first n values is written
-pub written_exists : (m : ℕ) (columns : ColumnList) → IsTable m columns → Converts m columns → (n : ℕ) → IsUnbroken m columns (values_of m columns) n
-    → (p : ℕ → ℕ) → IsOver m columns p → InSumSpan m n (values_of m columns) (words_of_row columns.list p)
-    → (row combination : Pairs) × IsWritten m columns (listed_work m columns) n p row combination
-written_exists m columns table converts n un p over listed =
+-- a row of the span of the first n sums is written
+pub written_exists : (m : ℕ) (columns : ColumnList) → IsTable m columns → Converts m columns → (work : Work) → IsWork m columns work
+    → IsWritable m columns work → (n : ℕ) → IsUnbroken m columns work.sums n → (p : ℕ → ℕ) → IsOver m columns p
+    → InSumSpan m n work.sums (words_of_row columns.list p) → (row combination : Pairs) × IsWritten m columns work n p row combination
+written_exists m columns table converts work works writable n un p over offered =
     let big = table.modulus in
     let pos : 0 < m = omega (arith, big) in
-    let (c, is) = combination_exists m columns table (values_of m columns) (listed_value-table m columns table) converts n un p listed in
+    let (c, is) = combination_exists m columns table work.sums works.sums converts n un p offered in
+    let beside = writable.beside n c (combination_accepted m columns work.sums n p c is) in
     let (row, hr) = pairs_exist m pos p (length columns.list) over in
-    let (combination, hc) = pairs_exist m pos c n is.within in
+    let (combination, hc) = pairs_exist m pos (work.beside c) n beside.within in
     (row, combination, record { is_row = hr; coefficients = c; is_combination = is; is_written = hc })

@@ -10,7 +10,7 @@ use Rattle.file_model.specs.Stays.{Stays}
 
 module _ (P : List ℕ → Type 0) where
   -- what every image keeps where it had P at this moment
-  abbrev From : Trace → List ℕ → Type 0
+  abbrev pub From : Trace → List ℕ → Type 0
   From t image = AllImages P t.now → P image
 
   -- what has P at each moment since a start that has it has P now

@@ -31,14 +31,14 @@ module _ (m : ℕ) (columns : ColumnList) (table : IsTable m columns) (converts 
   block_numbers b es block = all_from_get (λ n. (64 * b ≤ n) × (n < 64 * b + 64)) (numbers_of es) (λ k n at.
       let (is, from, to, few) = (block.whole n).0 (contained_at (numbers_of es) k n at) in (from, to))
 
-  pages_ranged : (b : ℕ) (ps : List Page) → FromBlock m columns table converts b ps → AreRanged b ps
+  pages_ranged : (b : ℕ) (ps : List Page) → FromBlock m columns (listed_work m columns) b ps → AreRanged b ps
   pages_ranged b [] h = tt
   pages_ranged b (p ∷ ps) h =
-      let (es, at, block) = first_page m columns table converts b p ps h in
+      let (es, at, block) = first_page m columns (listed_work m columns) b p ps h in
       let own : IsRanged b (numbers_of es) = record { within = block_numbers b es block; rising = block.increasing } in
-      (subst (λ x. IsRanged b (numbers_of (entries_of_page x))) (sym at) own, pages_ranged (suc b) ps (later_pages m columns table converts b p ps h))
+      (subst (λ x. IsRanged b (numbers_of (entries_of_page x))) (sym at) own, pages_ranged (suc b) ps (later_pages m columns (listed_work m columns) b p ps h))
 
-  module _ (ps : List Page) (h : FromBlock m columns table converts 0 ps)
+  module _ (ps : List Page) (h : FromBlock m columns (listed_work m columns) 0 ps)
       (un : (k : ℕ) → k < 64 * length ps → k < count_of columns → (residue : ℕ) → ¬ (IsBrokenAt m columns V k residue)) where
     abbrev L : List ForwardEntry
     L = entries_of ps

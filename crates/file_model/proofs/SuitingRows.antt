@@ -25,7 +25,7 @@ one_not_zero : (m : ℕ) → 1 < m → ¬ (Same m 1 0)
 one_not_zero m h e = let a : 1 % m ≡ 1 = mod-eq_of_lt h in let b : 0 % m ≡ 0 = mod-eq_of_lt (omega arith) in absurd (omega arith)
 
 -- whether one of the numbers is k
-found_number : (count : ℕ) (number : ℕ → ℕ) (k : ℕ) → ((i : ℕ) × (i < count) × (number i ≡ k)) ⊎ ((i : ℕ) → i < count → ¬ (number i ≡ k))
+pub found_number : (count : ℕ) (number : ℕ → ℕ) (k : ℕ) → ((i : ℕ) × (i < count) × (number i ≡ k)) ⊎ ((i : ℕ) → i < count → ¬ (number i ≡ k))
 found_number zero number k = inr (λ i l. absurd (omega arith))
 found_number (suc count) number k = elim (cases_eq (number count) k) [
   | inl e ↦ inl (count, omega arith, e)
@@ -42,7 +42,7 @@ module _ (m : ℕ) (columns : ColumnList) (table : IsTable m columns) (converts 
   abbrev S : ℕ → Sum
   S = (work m columns table converts kept).sums
 
-  row_is_cols : (k : ℕ) → k < kept.below → IsCols m columns (S k) (kept.rows k)
+  pub row_is_cols : (k : ℕ) → k < kept.below → IsCols m columns (S k) (kept.rows k)
   row_is_cols k l = subst (λ s. IsCols m columns s (kept.rows k)) (sym (sum_kept m columns table converts kept k l))
       (record { over = rows.over k l; words = λ t. refl })
 
@@ -64,20 +64,28 @@ module _ (m : ℕ) (columns : ColumnList) (table : IsTable m columns) (converts 
     ]
   ]
 
-  -- they have the span of all rows of the numbers before that of place i
-  front_span : (i : ℕ) → i < rows.count → SameSpan m i (λ j. kept.rows (rows.number j)) (rows.number i) kept.rows
-  front_span i l = (
-    λ j lj. row_in_span m (rows.number i) kept.rows (rows.number j) (rows.rising j i lj l),
+  abbrev R : ℕ → ℕ → ℕ
+  R j = kept.rows (rows.number j)
+
+  -- the rows of the first places have the span of all rows of the numbers below n, where these are the places whose number is below n
+  first_span : (i n : ℕ) → i ≤ rows.count → n ≤ kept.below → ((j : ℕ) → j < i → rows.number j < n) → ((j : ℕ) → j < rows.count → rows.number j < n → j < i)
+      → SameSpan m i R n kept.rows
+  first_span i n li l below first = (
+    λ j lj. row_in_span m n kept.rows (rows.number j) (below j lj),
     λ k lk. elim (found_number rows.count rows.number k) [
-      | inl (j, lj, e) ↦ subst (λ x. InSpan m i (λ j. kept.rows (rows.number j)) (kept.rows x)) e
-          (row_in_span m i (λ j. kept.rows (rows.number j)) j (earlier_place i j l lj (omega (arith, lk, e))))
-      | inr none ↦ (
-        λ _. 0,
-        λ col. rows.others k (omega (arith, lk, rows.below i l)) none col
-            ∙ ap (λ x. x % m) (sym (no_combination i (λ j. kept.rows (rows.number j)) col)),
-      )
+      | inl (j, lj, e) ↦ subst (λ x. InSpan m i R (kept.rows x)) e (row_in_span m i R j (first j lj (omega (arith, lk, e))))
+      | inr none ↦ (λ _. 0, λ col. rows.others k (omega (arith, lk, l)) none col ∙ ap (λ x. x % m) (sym (no_combination i R col)))
     ],
   )
+
+  -- those before a place have the span of all rows of the numbers before its own
+  front_span : (i : ℕ) → i < rows.count → SameSpan m i R (rows.number i) kept.rows
+  front_span i l = first_span i (rows.number i) (omega arith) (omega (arith, rows.below i l)) (λ j lj. rows.rising j i lj l)
+      (λ j lj less. earlier_place i j l lj less)
+
+  -- and all of them that of all rows of the numbers below a bound of theirs
+  pub all_span : (n : ℕ) → n ≤ kept.below → ((i : ℕ) → i < rows.count → rows.number i < n) → SameSpan m rows.count R n kept.rows
+  all_span n l within = first_span rows.count n (omega arith) l within (λ j lj _. lj)
 
   own_rest : (i : ℕ) → i < rows.count → IsUnbroken m columns S (rows.number i) → IsRest m columns S (rows.number i) (kept.rows (rows.number i))
   own_rest i l un =

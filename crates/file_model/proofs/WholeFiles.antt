@@ -15,8 +15,7 @@ use Rattle.page_file.proofs.Reading.{file_reads}
 use Rattle.table_model.specs.Conversion.{Converts}
 use Rattle.table_model.specs.ListedSpan.{values_of, count_of, relation_count}
 use Rattle.table_model.specs.ReducedRows.{IsUnbroken}
-use Rattle.file_model.specs.TableOf.{IsTableOf}
-use Rattle.file_model.specs.Pages.{ArePages, listed_work}
+use Rattle.file_model.specs.Pages.{Work, ArePages, listed_work}
 use Rattle.file_model.specs.Pages.ArePages.{none, begun, whole}
 use Rattle.file_model.specs.FinalRows.{IsWholeFile}
 use Rattle.file_model.specs.Prefixes.{IsPages, IsFile, IsSound}
@@ -25,26 +24,29 @@ use Rattle.file_model.proofs.CompleteFiles.{pages_complete}
 use Rattle.file_model.proofs.PlacedPages.{pages_placed}
 
 -- pages that begin with the header and end with the last page
-record IsClosed (params : Params) (pages : List Page) : Type 0 where
-  header : params_of pages ≡ Some params
-  rows : ℕ
-  front : List Page
-  closed : pages ≡ front ++ Done rows ∷ []
+pub record IsClosed (params : Params) (pages : List Page) : Type 0 where
+  pub header : params_of pages ≡ Some params
+  pub rows : ℕ
+  pub front : List Page
+  pub closed : pages ≡ front ++ Done rows ∷ []
+
+-- so are those of work that is broken nowhere
+pub work_closed : (params : Params) (columns : ColumnList) (work : Work) → Converts params.modulus columns
+    → IsUnbroken params.modulus columns work.sums (count_of columns) → (pages : List Page) → ArePages params columns work pages → IsClosed params pages
+work_closed params columns work converts un pages (none a x) = absurd (a converts)
+work_closed params columns work converts un pages (begun c n r l b f hf x) = absurd (un n l r b.0)
+work_closed params columns work converts un pages (whole c _ count lead rows h f g hf hg x) = record {
+  header = ap params_of x;
+  rows = count;
+  front = Header params ∷ (f ++ g);
+  closed = x ∙ ap (λ ps. Header params ∷ ps) (sym (append_assoc f g (Done count ∷ [])));
+}
 
 sound_closed : (params : Params) → IsSound params → (pages : List Page) → IsPages params pages → IsClosed params pages
-sound_closed params sound pages h = go h.columns h.are_columns h.are_pages (same_columns params sound.columns h.columns sound.are_columns h.are_columns)
-  where
-    go : (columns : ColumnList) → IsTableOf params columns → ArePages params columns (listed_work params.modulus columns) pages → sound.columns ≡ columns
-        → IsClosed params pages
-    go columns of (none a x) e = absurd (a (subst (Converts params.modulus) e sound.converts))
-    go columns of (begun c n r l b f hf x) e =
-        absurd (subst (λ k. IsUnbroken params.modulus k (values_of params.modulus k) (count_of k)) e sound.unbroken n l r b.0)
-    go columns of (whole c un count lead rows h f g hf hg x) e = record {
-      header = ap params_of x;
-      rows = count;
-      front = Header params ∷ (f ++ g);
-      closed = x ∙ ap (λ ps. Header params ∷ ps) (sym (append_assoc f g (Done count ∷ [])));
-    }
+sound_closed params sound pages h =
+    let same : sound.columns ≡ h.columns = same_columns params sound.columns h.columns sound.are_columns h.are_columns in
+    work_closed params h.columns (listed_work params.modulus h.columns) (subst (Converts params.modulus) same sound.converts)
+    (subst (λ k. IsUnbroken params.modulus k (values_of params.modulus k) (count_of k)) same sound.unbroken) pages h.are_pages
 
 pub file_is_whole : (params : Params) → IsParams params → (bytes : List ℕ) → IsFile params bytes → IsWholeFile bytes
 file_is_whole params fits bytes h =

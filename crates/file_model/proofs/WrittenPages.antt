@@ -15,24 +15,25 @@ use Rattle.page_codec.specs.Bounds.{IsParams, IsRowData, IsCombData}
 use Rattle.page_codec.specs.Places.{AreBelow}
 use Rattle.table_model.specs.MonomialWords.{words_of_row, words_of_monomial, column_at}
 use Rattle.table_model.specs.Conversion.{Converts, IsOver}
-use Rattle.table_model.specs.ListedSpan.{values_of}
+use Rattle.table_model.specs.ListedSpan.{count_of}
 use Rattle.table_model.specs.ReducedRows.{IsReducedRows, IsAccepted, IsForwardRow, IsCombination, IsUnbroken}
-use Rattle.table_model.proofs.CompleteRows.{listed_value-table}
 use Rattle.table_model.proofs.RowWords.{cols_unique}
 use Rattle.table_model.proofs.ReducedRowsLaws.{rest_over}
 use Rattle.table_model.proofs.ForwardRowLaws.{unbroken_has_rows, accepted_or_not}
 use Rattle.file_model.specs.TableOf.{IsTableOf}
-use Rattle.file_model.specs.Pages.{Pairs, IsPairs, IsWritten, listed_work}
-use Rattle.file_model.proofs.ParamColumns.{columns_are}
+use Rattle.file_model.specs.Pages.{Work, IsWork, Pairs, IsPairs, IsWritten}
+use Rattle.file_model.proofs.ParamColumns.{columns_are, relations_are, relations_few}
 use Rattle.file_model.proofs.PairBounds.{IsBounded, IsWithin, ChainFrom, bounded_chain, bounded_all, bounded_more, chain_length, lead_begins}
 use Rattle.file_model.proofs.AcceptedNumbers.{accepted_few}
+use Rattle.file_model.proofs.WritableWork.{AreAccepted, IsWritable, combination_accepted}
 
-module _ (params : Params) (fits : IsParams params) (columns : ColumnList) (of : IsTableOf params columns) (converts : Converts params.modulus columns) where
+module _ (params : Params) (fits : IsParams params) (columns : ColumnList) (of : IsTableOf params columns) (converts : Converts params.modulus columns)
+    (work : Work) (works : IsWork params.modulus columns work) (writable : IsWritable params.modulus columns work) where
   abbrev pub m : ℕ
   m = params.modulus
 
   abbrev V : ℕ → Sum
-  V = values_of m columns
+  V = work.sums
 
   big : 2 < m
   big = let t = of.table in t.modulus
@@ -94,18 +95,17 @@ module _ (params : Params) (fits : IsParams params) (columns : ColumnList) (of :
             chain;
       }
 
-  -- the pairs of a combination stand at accepted numbers
-  combination_accepted : (n : ℕ) (p c : ℕ → ℕ) (pairs : Pairs) → IsUnbroken m columns V n → IsCombination m columns V n p c → IsPairs m c pairs
+  -- pairs of residues at accepted numbers stand at these
+  pairs_accepted : (n : ℕ) (c : ℕ → ℕ) (pairs : Pairs) → IsUnbroken m columns V n → AreAccepted m columns V n c → IsPairs m c pairs
       → IsWithin (λ k. (k < n) × IsAccepted m columns V k) pairs
-  combination_accepted n p c pairs un h is q some = elim (cases_lt q n) [
+  pairs_accepted n c pairs un h is q some = elim (cases_lt q n) [
     | inr past ↦ absurd (some (sym (is.residues q) ∙ h.within q past ∙ none))
     | inl l ↦
         let table = of.table in
-        let tables = listed_value-table m columns table in
-        let rows = unbroken_has_rows m columns table V tables converts q (λ k lk. un k (omega (arith, lk, l))) in
-        elim (accepted_or_not m columns table V tables converts q rows) [
+        let rows = unbroken_has_rows m columns table V works.sums converts q (λ k lk. un k (omega (arith, lk, l))) in
+        elim (accepted_or_not m columns table V works.sums converts q rows) [
           | inl accepted ↦ (l, accepted)
-          | inr isnt ↦ absurd (some (sym (is.residues q) ∙ h.accepted q l isnt ∙ none))
+          | inr isnt ↦ absurd (some (sym (is.residues q) ∙ h.accepted q isnt ∙ none))
         ]
   ]
 
@@ -116,11 +116,13 @@ module _ (params : Params) (fits : IsParams params) (columns : ColumnList) (of :
       no_total zero f = refl
       no_total (suc n) f = omega (arith, no_total n f)
 
-  -- a row that is 1 somewhere has a combination
-  combination_some : (n : ℕ) (p c : ℕ → ℕ) (pairs : Pairs) → IsLed p → IsCombination m columns V n p c → IsPairs m c pairs → 1 ≤ length pairs
-  combination_some n p c (e ∷ es) led h is = omega arith
-  combination_some n p c [] led h is =
-      let zeros : (q : ℕ) → Same m (c q) 0 = λ q. is.residues q ∙ sym none in
+  -- of a row that is 1 somewhere something is written
+  combination_some : (n : ℕ) (p c : ℕ → ℕ) (pairs : Pairs) → n ≤ count_of columns → IsLed p → IsCombination m columns V n p c → IsPairs m (work.beside c) pairs
+      → 1 ≤ length pairs
+  combination_some n p c (e ∷ es) few led h is = omega arith
+  combination_some n p c [] few led h is =
+      let zeros : (q : ℕ) → Same m (c q) 0 =
+      writable.some n c few (combination_accepted m columns V n p c h) (λ q. is.residues q ∙ sym none) in
       let same : SameRow m p (λ _. 0) =
       cols_unique m columns of.table converts (words_of_row columns.list p) p (λ _. 0) (record { over = led.over; words = λ t. refl }) (record {
         over = λ col past. refl;
@@ -130,18 +132,19 @@ module _ (params : Params) (fits : IsParams params) (columns : ColumnList) (of :
       let unit : 1 % m ≡ 1 = mod-eq_of_lt (omega (arith, big)) in
       absurd (omega (arith, led.one, same led.lead, unit, none))
 
-  combination_is_data : (n : ℕ) (p c : ℕ → ℕ) (pairs : Pairs) → IsUnbroken m columns V n → n ≤ 2 ^ 32 → IsLed p → IsCombination m columns V n p c
-      → IsPairs m c pairs
-      → IsCombData pairs
+  combination_is_data : (n : ℕ) (p c : ℕ → ℕ) (pairs : Pairs) → IsUnbroken m columns V n → n ≤ count_of columns → IsLed p → IsCombination m columns V n p c
+      → IsPairs m (work.beside c) pairs → IsCombData pairs
   combination_is_data n p c pairs un few led h is =
-      let bounded : IsBounded (2 ^ 32) m pairs = bounded_more n (2 ^ 32) m pairs few (pairs_bounded n c pairs is h.within) in
+      let beside : AreAccepted m columns V n (work.beside c) = writable.beside n c (combination_accepted m columns V n p c h) in
+      let small_number : n ≤ 2 ^ 32 = omega (arith, few, relations_are params columns of, relations_few params fits) in
+      let bounded : IsBounded (2 ^ 32) m pairs =
+      bounded_more n (2 ^ 32) m pairs small_number (pairs_bounded n (work.beside c) pairs is beside.within) in
       record {
-        some = combination_some n p c pairs led h is;
+        some = combination_some n p c pairs few led h is;
         few = omega (
           arith,
           columns_few,
-          accepted_few m columns of.table V (listed_value-table m columns of.table) converts n pairs un is.row
-              (combination_accepted n p c pairs un h is),
+          accepted_few m columns of.table V works.sums converts n pairs un is.row (pairs_accepted n (work.beside c) pairs un beside is),
         );
         pairs = bounded_chain (2 ^ 32) m 0 pairs (omega (arith, big)) small is.row bounded;
       }
@@ -153,11 +156,15 @@ module _ (params : Params) (fits : IsParams params) (columns : ColumnList) (of :
     pub row_in_table : AreBelow (column_count params.weight params.depth) m row
     pub combination_in_table : AreBelow n m combination
 
-  pub written_held : (n : ℕ) (p : ℕ → ℕ) (row combination : Pairs) → IsUnbroken m columns V n → n ≤ 2 ^ 32 → IsLed p
-      → IsWritten m columns (listed_work m columns) n p row combination → IsHeld n row combination
-  written_held n p row combination un few led w = let c = w.is_combination in let pairs = w.is_written in let r = w.is_row in record {
-    row_data = row_is_data p row led w.is_row;
-    combination_data = combination_is_data n p w.coefficients combination un few led w.is_combination w.is_written;
-    row_in_table = bounded_all (column_count params.weight params.depth) m 0 row (omega (arith, big)) r.row (row_bounded p row led w.is_row);
-    combination_in_table = bounded_all n m 0 combination (omega (arith, big)) pairs.row (pairs_bounded n w.coefficients combination w.is_written c.within);
-  }
+  pub written_held : (n : ℕ) (p : ℕ → ℕ) (row combination : Pairs) → IsUnbroken m columns V n → n ≤ count_of columns → IsLed p
+      → IsWritten m columns work n p row combination → IsHeld n row combination
+  written_held n p row combination un few led w =
+      let pairs = w.is_written in let r = w.is_row in
+      let beside : AreAccepted m columns V n (work.beside w.coefficients) =
+      writable.beside n w.coefficients (combination_accepted m columns V n p w.coefficients w.is_combination) in record {
+        row_data = row_is_data p row led w.is_row;
+        combination_data = combination_is_data n p w.coefficients combination un few led w.is_combination w.is_written;
+        row_in_table = bounded_all (column_count params.weight params.depth) m 0 row (omega (arith, big)) r.row (row_bounded p row led w.is_row);
+        combination_in_table = bounded_all n m 0 combination (omega (arith, big)) pairs.row
+            (pairs_bounded n (work.beside w.coefficients) combination w.is_written beside.within);
+      }

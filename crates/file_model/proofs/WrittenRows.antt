@@ -9,7 +9,7 @@ use Rattle.table_model.specs.Conversion.{IsTable, Converts}
 use Rattle.table_model.specs.ReducedRows.{IsCombination, IsUnbroken}
 use Rattle.table_model.proofs.ForwardRowLaws.{combination_unique}
 use Rattle.table_model.proofs.RowWords.{same-words_of_row}
-use Rattle.file_model.specs.Pages.{Work, IsWork, Pairs, IsPairs, IsWritten}
+use Rattle.file_model.specs.Pages.{Work, IsWork, Pairs, IsPairs, IsWritten, IsRecorded}
 
 all_in : (pairs : Pairs) → AllIn {K = ℕ} {E = ℕ} (λ _. true) pairs
 all_in [] = tt
@@ -32,3 +32,12 @@ written_unique m columns work is_work table converts n whole p q a b c d e ha hb
           (combination_unique m columns table work.sums is_work.sums converts n whole p ha.coefficients hb.coefficients ha.is_combination moved))
           ha.is_written hb.is_written,
     )
+
+-- what is recorded of a row is one
+pub recorded_unique : (m : ℕ) (columns : ColumnList) (work : Work) → IsWork m columns work → IsTable m columns → Converts m columns → (n : ℕ)
+    → IsUnbroken m columns work.sums n → (p g h : ℕ → ℕ) → IsRecorded m columns work n p g → IsRecorded m columns work n p h → SameRow m g h
+recorded_unique m columns work is_work table converts n whole p g h a b k =
+    sym (a.written k)
+    ∙ is_work.beside a.coefficients b.coefficients
+    (combination_unique m columns table work.sums is_work.sums converts n whole p a.coefficients b.coefficients a.is_combination b.is_combination) k
+    ∙ b.written k

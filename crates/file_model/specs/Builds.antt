@@ -1,9 +1,10 @@
 -- What building and going on with a build say of the bytes that stand there, and what they leave.
-use Rattle.std.specs.Prelude.{◌≡◌, ℕ, ◌-◌, ◌*◌, ◌<◌, Some, List, [], ◌∷◌, length, take, slice_get}
+use Rattle.std.specs.Prelude.{◌≡◌, ℕ, ◌-◌, ◌*◌, ◌<◌, Some, List, [], ◌∷◌, ◌++◌, length, take, slice_get}
 use Rattle.zeta_model.specs.declared.Letter.{Letter}
 use Rattle.column_order.specs.Columns.{ColumnList}
 use Rattle.page_codec.specs.declared.params.Params.{Params}
 use Rattle.page_codec.specs.declared.page.Page.{Page}
+use Rattle.page_codec.specs.declared.page.Page.TheVariants.{Done}
 use Rattle.page_codec.specs.Places.{FitsPlace, row_count}
 use Rattle.page_file.specs.Files.{IsForeign, file_of, IsSealed, IsBadPage, ReadsAs}
 use Rattle.page_file.specs.Notes.{params_of}
@@ -13,6 +14,7 @@ use Rattle.table_model.specs.ReducedRows.{IsUnbroken, BreaksFirst}
 use Rattle.table_model.specs.Faults.{IsNotInvertible, IsFirstWithout}
 use Rattle.file_model.specs.TableOf.{IsTableOf}
 use Rattle.file_model.specs.Pages.{Work}
+use Rattle.file_model.specs.FinalRows.{finals_of, IsSumOfForward}
 use Rattle.file_model.specs.Resuming.{entries_of, blocks_of, kept_of, resumed_work, AllSuit, IsNotForward, Differs, IsResumed}
 
 -- what a build that came to its end tells
@@ -116,3 +118,15 @@ pub record IsLeft (params : Params) (bytes contents : List ℕ) : Type 0 where
   pub pages : List Page
   pub are_pages : IsResumed params sealed pages
   pub contents_are : contents ≡ file_of pages
+
+-- the sealed pages of the bytes are the first ones of the file, its last page is Done, and each final row follows from the forward rows
+pub record HasGoneOn (params : Params) (bytes contents : List ℕ) : Type 0 where
+  pub sealed : List Page
+  pub are_sealed : IsSealed sealed bytes
+  pub pages : List Page
+  pub contents_are : contents ≡ file_of pages
+  pub kept : take (length sealed) pages ≡ sealed
+  pub rows : ℕ
+  pub front : List Page
+  pub closed : pages ≡ front ++ Done rows ∷ []
+  pub follow : (i : ℕ) → i < length (finals_of pages) → IsSumOfForward params.modulus pages i

@@ -1,8 +1,10 @@
 -- The rows of the final pages, and files that are complete.
 use Rattle.std.specs.Prelude.{◌≡◌, ℕ, List, [], ◌∷◌, ◌++◌, length, get_or, Some}
+use Rattle.linear_model.specs.Rows.{combination, SameRow}
 use Rattle.column_order.specs.Columns.{ColumnList}
 use Rattle.echelon.specs.Lists.{lead_of}
 use Rattle.page_codec.specs.declared.params.Params.{Params}
+use Rattle.page_codec.specs.declared.parts.ForwardEntry.{ForwardEntry}
 use Rattle.page_codec.specs.declared.parts.FinalEntry.{FinalEntry}
 use Rattle.page_codec.specs.declared.page.Page.{Page}
 use Rattle.page_codec.specs.declared.page.Page.TheVariants.{Header, Forward, Final, Done}
@@ -14,6 +16,7 @@ use Rattle.table_model.specs.Complete.{IsComplete}
 use Rattle.table_model.specs.Faults.{Verdict, IsVerdict}
 use Rattle.file_model.specs.TableOf.{IsTableOf}
 use Rattle.file_model.specs.Pages.{pairs_of}
+use Rattle.file_model.specs.Resuming.{entries_of}
 
 abbrev pub finals_of_page : Page → List FinalEntry
 finals_of_page (Header params) = []
@@ -39,6 +42,22 @@ final_combination pages i = pairs_of ((get_or (finals_of pages) i no_entry).comb
 -- where row i of the final pages leads
 abbrev pub final_lead : List Page → ℕ → ℕ
 final_lead pages i = lead_of ((get_or (finals_of pages) i no_entry).row)
+
+abbrev pub no_forward_entry : ForwardEntry
+no_forward_entry = record { number = 0; row = []; combination = [] }
+
+-- row i of the forward pages, zero past the last
+abbrev pub forward_row : List Page → ℕ → ℕ → ℕ
+forward_row pages i = pairs_of ((get_or (entries_of pages) i no_forward_entry).row)
+
+abbrev pub forward_combination : List Page → ℕ → ℕ → ℕ
+forward_combination pages i = pairs_of ((get_or (entries_of pages) i no_forward_entry).combination)
+
+-- final row i is a sum of the forward rows, each so many times, and its combination is the same sum of theirs
+pub record IsSumOfForward (m : ℕ) (pages : List Page) (i : ℕ) : Type 0 where
+  pub times : ℕ → ℕ
+  pub row : SameRow m (final_row pages i) (combination (length (entries_of pages)) (forward_row pages) times)
+  pub combined : SameRow m (final_combination pages i) (combination (length (entries_of pages)) (forward_combination pages) times)
 
 -- this is found of the final rows of the pages
 abbrev pub IsFound : Params → ColumnList → List Page → Verdict → Type 0

@@ -5,3 +5,4 @@ pub mod FinalRows
 pub mod Resuming
 pub mod Builds
 pub mod Stays
+pub mod Histories

@@ -12,7 +12,7 @@ ghost use Rattle.table_model.specs.ReducedRows.{IsUnbroken, BreaksFirst};
 ghost use Rattle.table_model.specs.Faults.{IsNotInvertible};
 ghost use Rattle.file_model.specs.TableOf.{IsTableOf};
 ghost use Rattle.file_model.specs.Prefixes.{IsPages, IsFile, IsPrefix};
-ghost use Rattle.file_model.specs.Builds.{Figures, AreFigures, Answer, ResumeEnds, IsLeft};
+ghost use Rattle.file_model.specs.Builds.{Figures, AreFigures, Answer, ResumeEnds, IsLeft, HasGoneOn};
 ghost use Rattle.file_model.specs.Builds.Answer.{Built, NoInverseWord, NoInverseRelation};
 
 /// Of any bytes one thing is said.
@@ -22,6 +22,8 @@ ghost use Rattle.file_model.specs.Builds.Answer.{Built, NoInverseWord, NoInverse
 ///
 /// Over a prefix, work that comes to its end leaves the file of the parameters, and work that is broken at relation n leaves the 1 + n / 64
 /// pages of the parameters.
+///
+/// Over any bytes work that comes to its end keeps the sealed pages as the first ones of its file, and the final rows follow from the forward rows.
 pub fn ending_laws()
     ensures one { (params : Params) (bytes : List ℕ) (a b : Answer) → ResumeEnds params bytes a → ResumeEnds params bytes b → a ≡ b }
     ensures word { (params : Params) → IsParams params → (columns : ColumnList) → IsTableOf params columns
@@ -39,4 +41,6 @@ pub fn ending_laws()
     ensures broken { (params : Params) (k n residue : ℕ) (bytes contents : List ℕ)
         → IsPrefix params k bytes → ResumeEnds params bytes (NoInverseRelation residue n) → IsLeft params bytes contents
         → (pages : List Page) × IsPages params pages × (contents ≡ file_of pages) × (length pages ≡ 1 + n / 64) }
+    ensures goes_on { (params : Params) (figures : Figures) (bytes contents : List ℕ)
+        → ResumeEnds params bytes (Built figures) → IsLeft params bytes contents → HasGoneOn params bytes contents }
 {}

@@ -7,12 +7,14 @@
 #![tactic(auto)]
 
 pub mod endings;
+pub mod histories;
 pub mod pages;
 pub mod prefixes;
 pub mod resuming;
 pub mod staying;
 
 pub use endings::ending_laws;
+pub use histories::history_laws;
 pub use pages::page_laws;
 pub use prefixes::prefix_laws;
 pub use resuming::resuming_laws;

@@ -14,11 +14,12 @@ ghost use Rattle.table_model.specs.Conversion.{IsTable, Converts};
 ghost use Rattle.table_model.specs.ListedSpan.{count_of};
 ghost use Rattle.file_model.specs.TableOf.{IsTableOf};
 ghost use Rattle.file_model.specs.Pages.{forward_page, final_page, IsForwardBlock, IsFinalBlock, ArePages, Work, IsWork, Pairs, IsPairs, IsWritten, IsRecorded, listed_work};
+ghost use Rattle.file_model.specs.FinalRows.{finals_of, IsSumOfForward};
 
 /// Work on a table has one list of pages, and the page of a block stands there at its place.
 ///
 /// A row that is a sum of recorded ones is recorded with the same sum of what is written beside them, and that of an accepted number with what
-/// is written of that number alone.
+/// is written of that number alone. Each final row of the pages is a sum of their forward rows, with the same sum of combinations.
 pub fn page_laws()
     ensures listed { (m : ℕ) (columns : ColumnList) → IsTable m columns → IsWork m columns (listed_work m columns) }
     ensures one { (params : Params) (columns : ColumnList) (work : Work) → IsWork params.modulus columns work → IsTableOf params columns
@@ -50,4 +51,6 @@ pub fn page_laws()
         → (pages : List Page) → ArePages params columns work pages
         → (slice_get pages (1 + block_count (count_of columns) + block_count count) ≡ Some (Done count))
         × (length pages ≡ 2 + block_count (count_of columns) + block_count count) }
+    ensures follow { (params : Params) (columns : ColumnList) (work : Work) → IsWork params.modulus columns work → IsTableOf params columns
+        → (pages : List Page) → ArePages params columns work pages → (i : ℕ) → i < length (finals_of pages) → IsSumOfForward params.modulus pages i }
 {}

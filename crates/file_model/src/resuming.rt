@@ -1,12 +1,15 @@
 //! Work that goes on from pages of a file.
 ghost use Rattle.std.specs.Prelude.{◌≡◌, ◌<◌, ◌*◌, ◌↔◌, ℕ, suc, cond, eqb, Some, List, take, slice_get};
+ghost use Rattle.std.specs.List.{AllByRecursion};
 ghost use Rattle.linear_model.specs.Rows.{SameRow};
 ghost use Rattle.column_order.specs.Columns.{ColumnList};
 ghost use Rattle.page_codec.specs.declared.params.Params.{Params};
 ghost use Rattle.page_codec.specs.declared.parts.ForwardEntry.{ForwardEntry};
 ghost use Rattle.page_codec.specs.declared.page.Page.{Page};
+ghost use Rattle.page_codec.specs.Bounds.{IsPage, IsParams};
+ghost use Rattle.page_codec.specs.Places.{AllFit};
 ghost use Rattle.table_model.specs.Conversion.{IsTable, Converts};
-ghost use Rattle.table_model.specs.ListedSpan.{count_of};
+ghost use Rattle.table_model.specs.ListedSpan.{count_of, relation_count};
 ghost use Rattle.table_model.specs.ReducedRows.{IsAccepted, IsForwardRow, IsUnbroken};
 ghost use Rattle.file_model.specs.Pages.{forward_page, IsForwardBlock};
 ghost use Rattle.file_model.specs.Prefixes.{IsPages};
@@ -16,7 +19,8 @@ ghost use Rattle.file_model.specs.Resuming.{Kept, written_of, entries_of, blocks
 
 /// Work that goes on from sealed pages has one list of pages, and that of the first pages of parameters has the pages of the parameters.
 ///
-/// The rows of sealed pages that are ours and suit are a forward list, and the forward pages that are sealed are those of the work.
+/// The rows of sealed pages that are ours and suit are a forward list, and the forward pages that are sealed are those of the work. This work has
+/// pages, and each of them is a page and fits its place.
 ///
 /// Kept rows that are a forward list are the forward rows of the work that goes on from them: it is not broken at their numbers, and accepts these
 /// and no others below the bound. A page of such rows is the page of that work.
@@ -40,4 +44,9 @@ pub fn resuming_laws()
     ensures stay { (params : Params) (columns : ColumnList) → IsTableOf params columns → (bytes : List ℕ) (sealed : List Page) → IsOurs params bytes sealed
         → AllSuit params.modulus (entries_of sealed) → Converts params.modulus columns → (pages : List Page) → IsResumed params sealed pages
         → (b : ℕ) → b < blocks_of sealed → slice_get pages (suc b) ≡ slice_get sealed (suc b) }
+    ensures exist { (params : Params) (columns : ColumnList) → IsTableOf params columns → (bytes : List ℕ) (sealed : List Page) → IsOurs params bytes sealed
+        → AllSuit params.modulus (entries_of sealed) → (pages : List Page) × IsResumed params sealed pages }
+    ensures placed { (params : Params) → IsParams params → (columns : ColumnList) → IsTableOf params columns → (bytes : List ℕ) (sealed : List Page)
+        → IsOurs params bytes sealed → AllSuit params.modulus (entries_of sealed) → (pages : List Page) → IsResumed params sealed pages
+        → AllByRecursion IsPage pages × AllFit params (relation_count params.weight params.depth) pages }
 {}

@@ -1,6 +1,7 @@
 use Rattle.file_model.proofs.LeftFiles.{built_file, broken_file}
 use Rattle.file_model.proofs.OneAnswer.{one_answer}
 use Rattle.file_model.proofs.PrefixEnds.{word_told, relation_told, end_told_of}
+use Rattle.file_model.proofs.GoneOn.{has_gone_on}
 use Rattle.file_model.proofs.endings.ending_laws.Goals as goal
 
 pub returns-clause-one : goal.returns-clause-one
@@ -21,3 +22,6 @@ returns-clause-built c = built_file
 
 pub returns-clause-broken : goal.returns-clause-broken
 returns-clause-broken c = broken_file
+
+pub returns-clause-goes_on : goal.returns-clause-goes_on
+returns-clause-goes_on c = has_gone_on

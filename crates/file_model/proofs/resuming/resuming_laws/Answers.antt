@@ -2,6 +2,7 @@ use Rattle.file_model.proofs.Keeping.{one_resumed, resumed_pages}
 use Rattle.file_model.proofs.SuitingRows.{going_on_unbroken, going_on_forward, going_on_accepted}
 use Rattle.file_model.proofs.KeptStay.{beside_one, kept_page}
 use Rattle.file_model.proofs.SealedStay.{our_rows, our_pages_stay}
+use Rattle.file_model.proofs.ResumedPages.{resumed_exist, resumed_placed}
 use Rattle.file_model.proofs.resuming.resuming_laws.Goals as goal
 
 pub returns-clause-one : goal.returns-clause-one
@@ -30,3 +31,9 @@ returns-clause-kept c = our_rows
 
 pub returns-clause-stay : goal.returns-clause-stay
 returns-clause-stay c = our_pages_stay
+
+pub returns-clause-exist : goal.returns-clause-exist
+returns-clause-exist c = resumed_exist
+
+pub returns-clause-placed : goal.returns-clause-placed
+returns-clause-placed c = resumed_placed
