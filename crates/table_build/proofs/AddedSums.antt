@@ -20,3 +20,10 @@ module _ (m : ℕ) where
   added_none i rows c start before same none =
       added_more i rows c start before before same (λ q. ap (λ x. x % m) (let e : before q ≡ before q + 0 * rows i q = omega arith in
       e ∙ ap (λ t. before q + t * rows i q) (sym none)))
+
+  -- a row that is the same as another is so with nothing before it, and the other way round
+  pub none_plus : (p q : ℕ → ℕ) → SameRow m p q → SameRow m p (λ k. 0 + q k)
+  none_plus p q same k = same k ∙ ap (λ x. x % m) (let e : q k ≡ 0 + q k = omega arith in e)
+
+  pub plus_none : (p q : ℕ → ℕ) → SameRow m p (λ k. 0 + q k) → SameRow m p q
+  plus_none p q same k = same k ∙ ap (λ x. x % m) (let e : 0 + q k ≡ q k = omega arith in e)

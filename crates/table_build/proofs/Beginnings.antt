@@ -1,6 +1,7 @@
 -- A disk that is empty is looked at, and made ready for the header.
-use Rattle.std.specs.Prelude.{◌≡◌, ℕ, ◌+◌, ◌<◌, Option, Some, None, List, [], ◌∷◌, ◌++◌, length, IfSome, IsErrOf, Err}
+use Rattle.std.specs.Prelude.{◌≡◌, ℕ, ◌+◌, ◌<◌, ◌≤◌, Option, Some, None, List, [], ◌∷◌, ◌++◌, length, take, IfSome, IsErrOf, Err}
 use Rattle.std.proofs.Common.{refl, sym, ◌∙◌, ap, subst, arith}
+use Rattle.std.proofs.lemmas.List.{length-take}
 use Rattle.outside_io.specs.Moments.{settled}
 use Rattle.outside_io.specs.Traces.{Trace}
 use Rattle.page_codec.specs.declared.page.Page.{Page}
@@ -10,8 +11,9 @@ use Rattle.page_file.specs.Files.{IsForeign, IsBadPage, IsSealed, ReadsAs, file_
 use Rattle.page_file.specs.Notes.{Notes, Suits, count_of}
 use Rattle.page_file.specs.Stays.{Passes, Leaves}
 use Rattle.page_file.proofs.Passing.{weaker}
+use Rattle.page_file.proofs.Reading.{file_reads}
 use Rattle.table_build.specs.Faults.{HasCauseIn, work_fault}
-use Rattle.table_build.specs.Inner.{ReadsFrom, Holds, Keeps}
+use Rattle.table_build.specs.Inner.{AreFirst, ReadsFrom, Holds, Keeps}
 
 abbrev IsEmpty : Option Trace → Type 0
 IsEmpty told = IfSome told (λ t. t.now.contents ≡ [])
@@ -55,44 +57,66 @@ none_noted (Some t) notes empty suits some =
     let one : length notes.gates ≡ 0 + 1 = are.count ∙ ap (λ ps. length ps + 1) none in
     absurd (omega (arith, some, one))
 
-pub empty_sealed : (bytes : List ℕ) → bytes ≡ [] → IsSealed [] bytes
-empty_sealed bytes e = record { each = tt; rest = []; bytes_are = e; stops = tt }
-
-pub gate_read : ReadsAs [] (file_of [])
-gate_read = record {
-  sealed = record { each = tt; rest = 0 ∷ []; bytes_are = refl; stops = tt };
-  known = λ foreign. let long = foreign.long in omega (arith, long);
-}
-
--- at each moment no page or more stands there
-pub keeps_ready : (pages : List Page) (old mid new : Option Trace) → IsEmpty old → mid ≡ old
-    → Passes (λ t image. (sealed : List Page) → IsSealed sealed t.now.contents → ReadsAs sealed image) mid new → Keeps pages 0 old new
-keeps_ready pages old mid new empty same passes =
-    ready old empty (subst (λ t. Passes (λ u image. (sealed : List Page) → IsSealed sealed u.now.contents → ReadsAs sealed image) t new) same passes)
+-- so no pages are the first ones of any
+pub none_first : (pages : List Page) (old mid : Option Trace) → IsEmpty old → mid ≡ old → AreFirst pages mid
+none_first pages old mid empty same = subst (AreFirst pages) (sym same) (first old empty)
   where
-    ready : (old : Option Trace) → IsEmpty old → Passes (λ t image. (sealed : List Page) → IsSealed sealed t.now.contents → ReadsAs sealed image) old new
-        → Keeps pages 0 old new
-    ready None empty passes = passes
-    ready (Some t) empty passes = told new passes
-      where
-        told : (new : Option Trace) → Passes (λ t image. (sealed : List Page) → IsSealed sealed t.now.contents → ReadsAs sealed image) (Some t) new
-            → Keeps pages 0 (Some t) new
-        told None passes = absurd passes
-        told (Some u) passes =
-            weaker (λ image. (sealed : List Page) → IsSealed sealed t.now.contents → ReadsAs sealed image) (ReadsFrom pages 0) t u
-            (λ image h. record { count = 0; from = omega arith; within = omega arith; reads = h [] (empty_sealed t.now.contents empty) }) passes
+    first : (o : Option Trace) → IsEmpty o → AreFirst pages o
+    first None e = tt
+    first (Some t) e = λ sealed is.
+        let none : sealed ≡ [] = all_opened sealed is.rest (sym e ∙ is.bytes_are) in
+        ap (λ ps. take (length ps) pages) none ∙ sym none
 
--- one closed gate stands there, and nothing is pending
-pub holds_ready : (pages : List Page) (old mid new : Option Trace) → IsEmpty old → mid ≡ old
-    → Leaves (λ t bytes. (sealed : List Page) → IsSealed sealed t.now.contents → bytes ≡ file_of sealed) mid new → Holds pages 0 new
-holds_ready pages old mid new empty same leaves =
-    ready old new empty (subst (λ t. Leaves (λ u bytes. (sealed : List Page) → IsSealed sealed u.now.contents → bytes ≡ file_of sealed) t new) same leaves)
-  where
-    ready : (old new : Option Trace) → IsEmpty old → Leaves (λ t bytes. (sealed : List Page) → IsSealed sealed t.now.contents → bytes ≡ file_of sealed) old new
-        → Holds pages 0 new
-    ready None None empty leaves = tt
-    ready None (Some u) empty leaves = let no : Some u ≡ None = leaves in absurd (cc no)
-    ready (Some t) None empty leaves = absurd leaves
-    ready (Some t) (Some u) empty (are, still) =
-        let bytes : u.now.contents ≡ file_of [] = are [] (empty_sealed t.now.contents empty) in
-        record { within = omega arith; stands = still ∙ ap settled bytes; reads = gate_read }
+-- ---- sealed pages that are the first ones of some, made ready for the next
+
+length_within : {A : Type 0} (xs ys : List A) → take (length xs) ys ≡ xs → length xs ≤ length ys
+length_within xs ys e = omega (arith, ap length e, length-take (length xs) ys)
+
+module _ (pages : List Page) (notes : Notes) where
+  abbrev SamePages : Trace → List ℕ → Type 0
+  SamePages t image = (sealed : List Page) → IsSealed sealed t.now.contents → ReadsAs sealed image
+
+  abbrev SameFile : Trace → List ℕ → Type 0
+  SameFile t bytes = (sealed : List Page) → IsSealed sealed t.now.contents → bytes ≡ file_of sealed
+
+  counted : (t : Trace) (s : Suits notes t.now.contents) → count_of notes ≡ length s.pages
+  counted t s = let are = s.are_notes in omega (arith, are.count)
+
+  pub first_keeps : (old new : Option Trace) → IfSome old (λ t. Suits notes t.now.contents) → AreFirst pages old → Passes SamePages old new
+      → Keeps pages (count_of notes) old new
+  first_keeps None new suits first passes = passes
+  first_keeps (Some t) None suits first passes = absurd passes
+  first_keeps (Some t) (Some u) suits first passes =
+      let reads = suits.reads in
+      let are : take (length suits.pages) pages ≡ suits.pages = first suits.pages reads.sealed in
+      weaker (SamePages t) (ReadsFrom pages (count_of notes)) t u
+      (λ image h. record {
+        count = length suits.pages;
+        from = omega (arith, counted t suits);
+        within = length_within suits.pages pages are;
+        reads = subst (λ ps. ReadsAs ps image) (sym are) (h suits.pages reads.sealed);
+      }) passes
+
+  pub first_holds : (old new : Option Trace) → IfSome old (λ t. Suits notes t.now.contents) → AreFirst pages old → Leaves SameFile old new
+      → Holds pages (count_of notes) new
+  first_holds None new suits first leaves = subst (Holds pages (count_of notes)) (sym leaves) tt
+  first_holds (Some t) None suits first leaves = absurd leaves
+  first_holds (Some t) (Some u) suits first (are, still) =
+      let reads = suits.reads in
+      let sealed = reads.sealed in
+      let same : take (length suits.pages) pages ≡ suits.pages = first suits.pages sealed in
+      let here : take (count_of notes) pages ≡ suits.pages = ap (λ k. take k pages) (counted t suits) ∙ same in
+      record {
+        within = omega (arith, counted t suits, length_within suits.pages pages same);
+        stands = still ∙ ap settled (are suits.pages sealed ∙ ap file_of (sym here));
+        reads = subst (λ ps. ReadsAs ps (file_of ps)) (sym here) (file_reads suits.pages sealed.each);
+      }
+
+  -- where nothing was done before
+  pub first_keeps_behind : (old mid new : Option Trace) → mid ≡ old → IfSome old (λ t. Suits notes t.now.contents) → AreFirst pages old
+      → Passes SamePages mid new → Keeps pages (count_of notes) old new
+  first_keeps_behind old mid new same suits first passes = first_keeps old new suits first (subst (λ o. Passes SamePages o new) same passes)
+
+  pub first_holds_behind : (old mid new : Option Trace) → mid ≡ old → IfSome old (λ t. Suits notes t.now.contents) → AreFirst pages old
+      → Leaves SameFile mid new → Holds pages (count_of notes) new
+  first_holds_behind old mid new same suits first leaves = first_holds old new suits first (subst (λ o. Leaves SameFile o new) same leaves)

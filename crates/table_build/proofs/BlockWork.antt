@@ -131,17 +131,6 @@ module _ {E : Type 0} (has : E → Bool) where
       subst (λ xs. AreRows has bound xs new_rows) (sym en) (subst (λ xs. AreRows has bound (numbers ++ more_numbers) xs) (sym er)
       (record { count = all.count; in_ring = all.in_ring; rising = all.rising; below = λ i l. omega (arith, all.below i l, within) }))
 
-  pub no_rows : (bound : ℕ) (numbers : List ℕ) (rows : List (List (ℕ × E))) → numbers ≡ [] → rows ≡ [] → AreRows has bound numbers rows
-  no_rows bound numbers rows en er =
-      subst (λ xs. AreRows has bound xs rows) (sym en) (subst (λ xs. AreRows has bound [] xs) (sym er)
-      (record {
-        count = refl;
-        in_ring = λ i l. absurd (omega (arith, l));
-        rising = λ i k l h. absurd (omega (arith, h));
-        below = λ i l. absurd
-            (omega (arith, l));
-      }))
-
 -- no more reduced rows than columns
 pub rows_few : {E : Type 0} (m : ℕ) (has : E → Bool) (value : E → ℕ) (nothing : E) (columns : ℕ) (rows : List (List (ℕ × E)))
     → IsRowList m has value nothing columns rows → length rows ≤ columns

@@ -72,7 +72,7 @@ module _ (params : Params) (columns : ColumnList) (of : IsTableOf params columns
       → IfSome (fault_answer (build_fault fault)) (λ answer. IfSome old (λ t. BuildEnds params t.now.contents answer))
   fault_ends DiskFault cause = tt
   fault_ends (BadPage i) cause = tt
-  fault_ends (NoInverse value n) cause = ends_there params old _ empty (ends_broken params columns of converts pages is n value cause.0 cause.1)
+  fault_ends (NoInverse value n) cause = ends_there params old _ empty (ends_broken params columns of converts pages is are n value cause.0 cause.1)
   fault_ends (Differs i) cause = tt
   fault_ends (Memory e) cause = tt
 

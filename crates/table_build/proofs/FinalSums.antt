@@ -1,5 +1,5 @@
 -- The final pages: what is made for their rows is what is recorded for them, so they are the pages of the work.
-use Rattle.std.specs.Prelude.{◌≡◌, ℕ, suc, ◌+◌, ◌-◌, ◌*◌, ◌%◌, ◌<◌, ◌≤◌, min, Bool, true, Option, Some, None, IfSome, List, [], length, take, slice_get, get_or}
+use Rattle.std.specs.Prelude.{◌≡◌, ℕ, suc, ◌+◌, ◌-◌, ◌*◌, ◌/◌, ◌%◌, ◌<◌, ◌≤◌, min, Bool, true, Option, Some, None, IfSome, List, [], length, take, slice_get, get_or}
 use Rattle.std.specs.List.{AllByRecursion}
 use Rattle.std.proofs.Common.{refl, sym, ◌∙◌, ap, subst, arith}
 use Rattle.std.proofs.lemmas.Option.{slice_get_within}
@@ -16,24 +16,48 @@ use Rattle.page_codec.specs.declared.page.Page.TheVariants.{Done}
 use Rattle.page_codec.specs.Places.{block_count}
 use Rattle.page_codec.specs.Bounds.{IsPage}
 use Rattle.page_file.specs.Files.{IsSealed}
+use Rattle.page_file.specs.Notes.{Notes, Suits}
+use Rattle.page_file.proofs.Reading.{sealed_unique}
 use Rattle.file_model.specs.Pages.{IsPairs, IsWritten, IsRecorded, IsFinalBlock, final_page}
-use Rattle.file_model.proofs.Recorded.{written_recorded}
+use Rattle.file_model.specs.Resuming.{combination_in}
+use Rattle.file_model.proofs.Recorded.{recorded_same, written_recorded}
 use Rattle.file_model.proofs.LastPages.{next_final, next_last}
-use Rattle.table_build.specs.Inner.{Course, AreRows, AreFinals, IsFinalEntryOf, IsPageOfFinals, AllKept, Holds, between, sealed_combination}
-use Rattle.table_build.proofs.RecordedSums.{recorded_same}
+use Rattle.table_build.specs.Inner.{Course, AreRows, AreFinals, HaveFinals, HasForward, IsFinalEntryOf, IsPageOfFinals, AllKept, Holds, StandsAt, between, entries_on, sealed_combination}
+use Rattle.table_build.proofs.AddedInTurn.{alike_below}
 use Rattle.table_build.proofs.WrittenEntries.{written_pairs}
-use Rattle.table_build.proofs.SealedRows.{recorded_later}
-use Rattle.table_build.proofs.SealSteps.{held_sealed}
+use Rattle.table_build.proofs.SealedRows.{recorded_later, taken}
+use Rattle.table_build.proofs.SealSteps.{held_sealed, holds_told, told_one}
 use Rattle.table_build.proofs.KeptBlocks.{recorded_at, all_kept, between_at}
+
+-- the forward pages are those of the work
+abbrev AreAlike : List Page → ℕ → List Page → Type 0
+AreAlike pages blocks sealed = (b : ℕ) → b < blocks → slice_get sealed (1 + b) ≡ slice_get pages (1 + b)
+
+-- pages that stand there with all forward pages have these
+pub forward_held : (pages : List Page) (blocks k : ℕ) (o : Option Trace) → blocks < k → Holds pages k o → HasForward pages blocks o
+forward_held pages blocks k o inside holds =
+    told_one (λ t. StandsAt pages k t.now) (λ t. (sealed : List Page) → IsSealed sealed t.now.contents → AreAlike pages blocks sealed) o
+    (λ t stands sealed is b l. ap (λ (ps : List Page). slice_get ps (1 + b))
+    (sealed_unique sealed (take k pages) t.now.contents is (held_sealed pages k t stands)) ∙ taken k (1 + b) pages (omega (arith, inside, l)))
+    (holds_told pages k o holds)
+
+pub finals_have : {E : Type 0} (m : ℕ) (value : E → ℕ) (columns : ColumnList) (course : Course) (blocks k : ℕ) (numbers : List ℕ)
+    (rows finals uses : List (List (ℕ × E))) (told : Option Trace) → blocks < k → AreFinals m value columns course k numbers rows finals uses told
+    → HaveFinals m value columns course blocks numbers rows finals uses told
+finals_have m value columns course blocks k numbers rows finals uses told inside are = record {
+  forward = forward_held course.pages blocks k told inside are.holds;
+  finished = are.finished;
+  made = are.made;
+}
 
 -- what is told of the combinations of final rows from a place on: the sums of the sealed ones
 abbrev pub AreFinalSums : {E : Type 0} → ℕ → (E → ℕ) → List ℕ → ℕ → List (List (ℕ × E)) → List (List (ℕ × E)) → List Page → Type 0
 AreFinalSums m value numbers first uses made pages = (j : ℕ) → j < length made → SameRow m (row_at value made j)
     (combination (length numbers) (λ i. sealed_combination pages (get_or numbers i 0)) (used_at value numbers (get_or uses (first + j) [])))
 
-module _ {E : Type 0} (zero_element : E) (has : E → Bool) (value : E → ℕ) (course : Course) (columns : ColumnList) (blocks sealed_pages : ℕ)
+module _ {E : Type 0} (zero_element : E) (has : E → Bool) (value : E → ℕ) (course : Course) (columns : ColumnList) (blocks : ℕ)
     (numbers : List ℕ) (rows finals uses : List (List (ℕ × E))) (told : Option Trace) (all_blocks : blocks ≡ block_count (count_of columns))
-    (are : AreFinals course.params.modulus value columns course sealed_pages numbers rows finals uses told)
+    (are : HaveFinals course.params.modulus value columns course blocks numbers rows finals uses told)
     (sealed_rows : AreRows has (64 * blocks) numbers rows) where
   abbrev m : ℕ
   m = course.params.modulus
@@ -133,14 +157,14 @@ module _ {E : Type 0} (zero_element : E) (has : E → Bool) (value : E → ℕ) 
 -- the same where the modulus is known by another name
 module _ {E : Type 0} (m : ℕ) (zero_element : E) (has : E → Bool) (value : E → ℕ) (has_zero : has zero_element ≡ true) (value_zero : value zero_element ≡ 0)
     (value_injective : (a b : E) → has a ≡ true → has b ≡ true → value a ≡ value b → a ≡ b) (value_below : (a : E) → has a ≡ true → value a < m)
-    (course : Course) (columns : ColumnList) (blocks sealed_pages : ℕ) (numbers : List ℕ) (rows finals uses : List (List (ℕ × E))) (told : Option Trace)
-    (all_blocks : blocks ≡ block_count (count_of columns)) (are : AreFinals m value columns course sealed_pages numbers rows finals uses told)
+    (course : Course) (columns : ColumnList) (blocks : ℕ) (numbers : List ℕ) (rows finals uses : List (List (ℕ × E))) (told : Option Trace)
+    (all_blocks : blocks ≡ block_count (count_of columns)) (are : HaveFinals m value columns course blocks numbers rows finals uses told)
     (sealed_rows : AreRows has (64 * blocks) numbers rows) where
   own_modulus : course.params.modulus ≡ m
   own_modulus = let finished = are.finished in let offered = finished.offered in let known = offered.is_course in known.modulus
 
   abbrev Own : ℕ → Type 0
-  Own x = AreFinals x value columns course sealed_pages numbers rows finals uses told
+  Own x = HaveFinals x value columns course blocks numbers rows finals uses told
 
   pub final_stands : (k : ℕ) → blocks < k → (place : ℕ) → 64 * place < length finals → (made : List (List (ℕ × E))) (page : Page) → AllIns has made
       → length made ≡ min 64 (length finals - 64 * place) → IsPageOfFinals has zero_element value place finals made page
@@ -148,34 +172,64 @@ module _ {E : Type 0} (m : ℕ) (zero_element : E) (has : E → Bool) (value : E
   final_stands k inside place starts made page in_ring count page_is sums =
       subst (λ x. ((a : E) → has a ≡ true → value a < x) → Own x → AreFinalSums x value numbers (64 * place) uses made (take k course.pages)
       → slice_get course.pages (1 + blocks + place) ≡ Some (final_page (64 * place) page_is.entries)) own_modulus
-      (λ below own sums_are. next_final_page zero_element has value course columns blocks sealed_pages numbers rows finals uses told all_blocks own sealed_rows
+      (λ below own sums_are. next_final_page zero_element has value course columns blocks numbers rows finals uses told all_blocks own sealed_rows
       has_zero value_zero value_injective below k inside place starts made in_ring count sums_are page_is.entries page_is.count page_is.each)
       value_below are sums ∙ ap Some (sym page_is.page_is)
 
   pub rows_kept : (k : ℕ) → blocks < k → AllKept m zero_element value blocks numbers rows (take k course.pages)
   rows_kept k inside = subst (λ x. ((a : E) → has a ≡ true → value a < x) → Own x → AllKept x zero_element value blocks numbers rows (take k course.pages))
-      own_modulus (λ below own. finals_kept zero_element has value course columns blocks sealed_pages numbers rows finals uses told all_blocks own sealed_rows k
+      own_modulus (λ below own. finals_kept zero_element has value course columns blocks numbers rows finals uses told all_blocks own sealed_rows k
       has_zero value_zero value_injective below inside) value_below are
 
   pub last_stands : (slice_get course.pages (1 + blocks + block_count (length finals)) ≡ Some (Done (length finals)))
       × (length course.pages ≡ 2 + blocks + block_count (length finals))
   last_stands = subst (λ x. Own x → (slice_get course.pages (1 + blocks + block_count (length finals)) ≡ Some (Done (length finals)))
       × (length course.pages ≡ 2 + blocks + block_count (length finals))) own_modulus
-      (λ own. last_page zero_element has value course columns blocks sealed_pages numbers rows finals uses told all_blocks own sealed_rows) are
+      (λ own. last_page zero_element has value course columns blocks numbers rows finals uses told all_blocks own sealed_rows) are
+
+  -- pages with the same forward pages have the same combinations beside the rows kept, and are kept as well
+  module _ (pages : List Page) (alike : AreAlike course.pages blocks pages) where
+    alike_at : (b : ℕ) → b < blocks → slice_get (take (1 + blocks) course.pages) (1 + b) ≡ slice_get pages (1 + b)
+    alike_at b l = taken (1 + blocks) (1 + b) course.pages (omega (arith, l)) ∙ sym (alike b l)
+
+    same_combination : (i : ℕ) → i < length numbers
+        → sealed_combination pages (get_or numbers i 0) ≡ sealed_combination (take (1 + blocks) course.pages) (get_or numbers i 0)
+    same_combination i l = let x : ℕ = get_or numbers i 0 in
+        ap (λ page. combination_in (entries_on page) x) (sym (alike_at (x / 64) (omega (arith, sealed_rows.below i l))))
+
+    same_sums : (first : ℕ) (made : List (List (ℕ × E))) → AreFinalSums m value numbers first uses made pages
+        → AreFinalSums m value numbers first uses made (take (1 + blocks) course.pages)
+    same_sums first made sums j l q =
+        let u : ℕ → ℕ = used_at value numbers (get_or uses (first + j) []) in
+        sums j l q ∙ ap (λ x. x % m) (alike_below (length numbers) (λ i. u i * sealed_combination pages (get_or numbers i 0) q)
+        (λ i. u i * sealed_combination (take (1 + blocks) course.pages) (get_or numbers i 0) q)
+        (λ i li. ap (λ (f : ℕ → ℕ). u i * f q) (same_combination i li)))
+
+    pub pages_kept : AllKept m zero_element value blocks numbers rows pages
+    pages_kept b done end l run some page at = rows_kept (1 + blocks) (omega arith) b done end l run some page (alike_at b l ∙ at)
+
+    pub page_stands : (place : ℕ) → 64 * place < length finals → (made : List (List (ℕ × E))) (page : Page) → AllIns has made
+        → length made ≡ min 64 (length finals - 64 * place) → IsPageOfFinals has zero_element value place finals made page
+        → AreFinalSums m value numbers (64 * place) uses made pages → slice_get course.pages (1 + blocks + place) ≡ Some page
+    page_stands place starts made page in_ring count page_is sums =
+        final_stands (1 + blocks) (omega arith) place starts made page in_ring count page_is (same_sums (64 * place) made sums)
 
   -- so it is where the disk tells
-  pub next_final_told : (k : ℕ) → blocks < k → (place : ℕ) → 64 * place < length finals → (made : List (List (ℕ × E))) (page : Page) → AllIns has made
-      → length made ≡ min 64 (length finals - 64 * place) → IsPageOfFinals has zero_element value place finals made page → (o : Option Trace)
-      → Holds course.pages k o → IfSome o (λ t. (pages : List Page) → IsSealed pages t.now.contents → AreFinalSums m value numbers (64 * place) uses made pages)
+  pub next_final_told : (place : ℕ) → 64 * place < length finals → (made : List (List (ℕ × E))) (page : Page) → AllIns has made
+      → length made ≡ min 64 (length finals - 64 * place) → IsPageOfFinals has zero_element value place finals made page → (notes : Notes) (o : Option Trace)
+      → IfSome o (λ t. Suits notes t.now.contents) → HasForward course.pages blocks o
+      → IfSome o (λ t. (pages : List Page) → IsSealed pages t.now.contents → AreFinalSums m value numbers (64 * place) uses made pages)
       → IfSome o (λ t. slice_get course.pages (1 + blocks + place) ≡ Some page)
-  next_final_told k inside place starts made page in_ring count page_is None holds sums = tt
-  next_final_told k inside place starts made page in_ring count page_is (Some t) holds sums =
-      final_stands k inside place starts made page in_ring count page_is (sums (take k course.pages) (held_sealed course.pages k t holds))
+  next_final_told place starts made page in_ring count page_is notes None suits forward sums = tt
+  next_final_told place starts made page in_ring count page_is notes (Some t) suits forward sums =
+      let reads = suits.reads in
+      page_stands suits.pages (forward suits.pages reads.sealed) place starts made page in_ring count page_is (sums suits.pages reads.sealed)
 
-  pub finals_untold : (k : ℕ) → blocks < k → (o : Option Trace) → Holds course.pages k o
+  pub finals_untold : (notes : Notes) (o : Option Trace) → IfSome o (λ t. Suits notes t.now.contents) → HasForward course.pages blocks o
       → IfSome o (λ t. (pages : List Page) → IsSealed pages t.now.contents → ¬ (AllKept m zero_element value blocks numbers rows pages)) → o ≡ None
-  finals_untold k inside None holds other = refl
-  finals_untold k inside (Some t) holds other = absurd (other (take k course.pages) (held_sealed course.pages k t holds) (rows_kept k inside))
+  finals_untold notes None suits forward other = refl
+  finals_untold notes (Some t) suits forward other = let reads = suits.reads in
+      absurd (other suits.pages reads.sealed (pages_kept suits.pages (forward suits.pages reads.sealed)))
 
   pub all_pages : AllByRecursion IsPage course.pages
   all_pages = let finished = are.finished in let offered = finished.offered in let known = offered.is_course in known.each

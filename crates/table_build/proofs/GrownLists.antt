@@ -1,8 +1,8 @@
 -- Numbers and rows that stand behind others.
-use Rattle.std.specs.Prelude.{◌≡◌, ℕ, ◌+◌, ◌⊎◌, List, [], ◌∷◌, ◌++◌, length, get_or}
+use Rattle.std.specs.Prelude.{◌≡◌, ℕ, ◌+◌, ◌⊎◌, List, [], ◌∷◌, ◌++◌, length, get_or, take, drop}
 use Rattle.std.proofs.Common.{sym, ◌∙◌, ap, inl, inr, arith}
 use Rattle.std.proofs.lemmas.Bool.{cases_lt}
-use Rattle.std.proofs.lemmas.List.{length-append, get_or_append_left, get_or-append-add}
+use Rattle.std.proofs.lemmas.List.{length-append, get_or_append_left, get_or-append-add, take_at}
 use Rattle.table_build.specs.Inner.{Stands}
 
 -- one behind others is the last
@@ -26,3 +26,7 @@ stands_front xs ys k (i, l, e) = (i, omega (arith, l, length-append xs ys), get_
 
 pub stands_there : (xs : List ℕ) (x : ℕ) → Stands (xs ++ x ∷ []) x
 stands_there xs x = (length xs, omega (arith, length-last xs x), last_one xs x 0)
+
+-- a slice that is written back into its list
+pub written_back : {A : Type 0} (n : ℕ) (new items : List A) → n ≡ length items → length new ≡ length items → take n (new ++ drop (length new) items) ≡ new
+written_back n new items e f = take_at new (drop (length new) items) n (f ∙ sym e)

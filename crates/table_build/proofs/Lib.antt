@@ -7,6 +7,8 @@ mod OfferedBlocks
 mod BlockSteps
 mod Keepings
 mod CauseSteps
+mod Resumings
+mod Comparisons
 mod WorkSteps
 mod BlockWork
 mod TableFaults
@@ -21,5 +23,12 @@ mod SealSteps
 mod RereadPages
 mod SealedSums
 mod FinalSums
+mod WorkEndings
 mod Courses
 mod BuildEndings
+mod Resumptions
+mod ResumeEndings
+mod ResumeClauses
+mod Openings
+mod Restorings
+mod RestoredRows

@@ -10,7 +10,7 @@ use Rattle.echelon.specs.Lists.{entries_of, row_at}
 use Rattle.echelon.specs.Offers.{used_at}
 use Rattle.file_model.specs.Pages.{Work, IsRecorded}
 use Rattle.table_build.specs.Inner.{IsMadeOf, AreFresh, AreSums, AreRows}
-use Rattle.table_build.proofs.RecordedSums.{recorded_same}
+use Rattle.file_model.proofs.Recorded.{recorded_same}
 use Rattle.table_build.proofs.GrownLists.{last_one, length-last}
 
 -- made of the same rows, as often

@@ -32,7 +32,7 @@ first_on (Forward p) = p.first
 first_on (Final p) = 0
 first_on (Done rows) = 0
 
-abbrev no_entry : ForwardEntry
+abbrev pub no_entry : ForwardEntry
 no_entry = record { number = 0; row = []; combination = [] }
 
 -- the combinations of the entries of a page have the bounds of pages

@@ -23,7 +23,7 @@ use Rattle.file_model.proofs.KeptPages.{Found, found}
 use Rattle.file_model.proofs.ListPlaces.{place_of}
 use Rattle.file_model.proofs.Recorded.{recorded_more}
 use Rattle.table_build.specs.Inner.{entries_on, sealed_combination}
-use Rattle.table_build.proofs.RecordedSums.{recorded_same}
+use Rattle.file_model.proofs.Recorded.{recorded_same}
 
 -- what stands among the first k
 pub taken : {A : Type 0} (k i : ℕ) (xs : List A) → i < k → slice_get (take k xs) i ≡ slice_get xs i

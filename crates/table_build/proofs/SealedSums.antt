@@ -26,7 +26,7 @@ use Rattle.file_model.specs.Pages.{IsPairs, IsWritten, IsRecorded, IsForwardBloc
 use Rattle.file_model.proofs.Recorded.{written_recorded}
 use Rattle.file_model.proofs.NextPages.{next_forward}
 use Rattle.table_build.specs.Inner.{Course, AreRows, AreSums, IsBlock, IsEntryOf, IsPageOfRows, Holds, AllKept, sealed_combination}
-use Rattle.table_build.proofs.RecordedSums.{recorded_same}
+use Rattle.file_model.proofs.Recorded.{recorded_same}
 use Rattle.table_build.proofs.AddedInTurn.{total_parts, alike_below}
 use Rattle.table_build.proofs.WrittenEntries.{written_pairs}
 use Rattle.table_build.proofs.SealedRows.{recorded_later}

@@ -13,7 +13,7 @@ use Rattle.table_model.specs.ReducedRows.{IsBrokenAt, IsUnbroken, IsReducedRows}
 use Rattle.table_model.proofs.ReducedRowsLaws.{reduced_rows_counts}
 use Rattle.file_model.specs.Pages.{ArePages}
 use Rattle.file_model.specs.Pages.ArePages.{none, begun, whole}
-use Rattle.table_build.specs.Inner.{Course, IsCourse, HasOffered, HasFinished, AreMade, AreFinals, IsAt, IsEnd, Holds}
+use Rattle.table_build.specs.Inner.{Course, IsCourse, HasOffered, HasFinished, AreMade, AreFinals, HasForward, HaveFinals, IsAt, IsEnd, Holds}
 use Rattle.table_build.proofs.OfferedSums.{reduced_rows_of}
 use Rattle.table_build.proofs.Offerings.{course_table, course_converts, course_work, course_sums}
 use Rattle.table_build.proofs.RecordedSums.{made_of_rows}
@@ -88,14 +88,35 @@ pub finals_there : {R E : Type 0} (modulus : R → ℕ) (has : R → E → Bool)
     → numbers ≡ old_numbers → rows ≡ old_rows → blocks ≡ block_count (count_of columns) → AreReduced (modulus old) (value old) finals
     → SameSpanOf (modulus old) (value old) old_rows finals → AreUses (modulus old) (has old) (value old) old_numbers old_rows finals uses
     → IsAt (modulus ring) (value ring) columns course blocks numbers rows told
-    → AreFinals (modulus there) (value there) columns course (1 + blocks) numbers rows finals uses told
+    → AreFinals (modulus there) (value there) columns course (1 + blocks + 0) numbers rows finals uses told
 finals_there modulus has value ring old there columns course blocks numbers old_numbers rows old_rows finals uses told eo et en er eb reduced same are at =
     let all : min (64 * blocks) (count_of columns) ≡ count_of columns = omega (arith, eb) in
-    subst (λ r. AreFinals (modulus r) (value r) columns course (1 + blocks) numbers rows finals uses told) (sym et)
-    (finals_of (modulus ring) (value ring) columns course numbers rows finals uses {has = has ring} (1 + blocks) told
+    subst (λ r. AreFinals (modulus r) (value r) columns course (1 + blocks + 0) numbers rows finals uses told) (sym et)
+    (finals_of (modulus ring) (value ring) columns course numbers rows finals uses {has = has ring} (1 + blocks + 0) told
     (subst (λ k. HasOffered (modulus ring) (value ring) columns course k numbers rows) all at.offered)
     (subst (λ r. AreReduced (modulus r) (value r) finals) eo reduced)
     (subst (λ xs. SameSpanOf (modulus ring) (value ring) xs finals) (sym er) (subst (λ r. SameSpanOf (modulus r) (value r) old_rows finals) eo same))
     (subst (λ xs. AreUses (modulus ring) (has ring) (value ring) xs rows finals uses) (sym en)
     (subst (λ xs. AreUses (modulus ring) (has ring) (value ring) old_numbers xs finals uses) (sym er)
-    (subst (λ r. AreUses (modulus r) (has r) (value r) old_numbers old_rows finals uses) eo are))) at.holds)
+    (subst (λ r. AreUses (modulus r) (has r) (value r) old_numbers old_rows finals uses) eo are)))
+    (subst (λ k. Holds course.pages k told) (let z : 1 + blocks ≡ 1 + blocks + 0 = omega arith in z) at.holds))
+
+pub have_there : {R E : Type 0} (modulus : R → ℕ) (has : R → E → Bool) (value : R → E → ℕ) (ring old there : R) (columns : ColumnList)
+    (course : Course) (blocks : ℕ)
+    (numbers old_numbers : List ℕ) (rows old_rows finals uses : List (List (ℕ × E))) (told : Option Trace) → old ≡ ring → there ≡ ring
+    → numbers ≡ old_numbers → rows ≡ old_rows → AreReduced (modulus old) (value old) finals
+    → SameSpanOf (modulus old) (value old) old_rows finals → AreUses (modulus old) (has old) (value old) old_numbers old_rows finals uses
+    → HasOffered (modulus ring) (value ring) columns course (count_of columns) numbers rows → HasForward course.pages blocks told
+    → HaveFinals (modulus there) (value there) columns course blocks numbers rows finals uses told
+have_there modulus has value ring old there columns course blocks numbers old_numbers rows old_rows finals uses told eo et en er reduced same are offered
+    forward =
+    subst (λ r. HaveFinals (modulus r) (value r) columns course blocks numbers rows finals uses told) (sym et) (record {
+      forward = forward;
+      finished = finished_of (modulus ring) (value ring) columns course numbers rows finals uses offered
+          (subst (λ r. AreReduced (modulus r) (value r) finals) eo reduced)
+          (subst (λ xs. SameSpanOf (modulus ring) (value ring) xs finals) (sym er) (subst (λ r. SameSpanOf (modulus r) (value r) old_rows finals) eo same));
+      made = made_by_uses (modulus ring) (value ring) columns course numbers rows finals uses {has = has ring} offered.is_course
+          (subst (λ xs. AreUses (modulus ring) (has ring) (value ring) xs rows finals uses) (sym en)
+          (subst (λ xs. AreUses (modulus ring) (has ring) (value ring) old_numbers xs finals uses) (sym er)
+          (subst (λ r. AreUses (modulus r) (has r) (value r) old_numbers old_rows finals uses) eo are)));
+    })

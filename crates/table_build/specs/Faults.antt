@@ -12,6 +12,8 @@ use Rattle.table_build.specs.declared.fault.WorkFault.{WorkFault}
 use Rattle.table_build.specs.declared.fault.WorkFault.TheVariants as stopped
 use Rattle.table_build.specs.declared.fault.BuildFault.{BuildFault}
 use Rattle.table_build.specs.declared.fault.BuildFault.TheVariants as built
+use Rattle.table_build.specs.declared.fault.ResumeFault.{ResumeFault}
+use Rattle.table_build.specs.declared.fault.ResumeFault.TheVariants as resumed
 
 abbrev pub work_fault : FileFault → WorkFault
 work_fault file.DiskFault = stopped.DiskFault
@@ -47,3 +49,20 @@ IsTableFault params (built.NoInverseWord value word) = (columns : ColumnList) ×
 IsTableFault params (built.NoInverseRelation value n) = ⊥
 IsTableFault params (built.Differs i) = ⊥
 IsTableFault params (built.Memory fault) = Unit {0}
+
+abbrev pub resume_fault : WorkFault → ResumeFault
+resume_fault stopped.DiskFault = resumed.DiskFault
+resume_fault (stopped.BadPage i) = resumed.BadPage i
+resume_fault (stopped.NoInverse value n) = resumed.NoInverseRelation value n
+resume_fault (stopped.Differs i) = resumed.Differs i
+resume_fault (stopped.Memory fault) = resumed.Memory fault
+
+abbrev pub look_fault : FileFault → ResumeFault
+look_fault file.DiskFault = resumed.DiskFault
+look_fault (file.Foreign n) = resumed.Foreign n
+look_fault (file.BadPage i) = resumed.BadPage i
+look_fault (file.Memory fault) = resumed.Memory fault
+
+abbrev pub word_fault : LyndonFault → ResumeFault
+word_fault (table.NoInverse value word) = resumed.NoInverseWord value word
+word_fault (table.Memory fault) = resumed.Memory fault

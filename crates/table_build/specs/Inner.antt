@@ -1,6 +1,6 @@
 -- What single steps of the code keep. No public clause cites this, so a reader need not believe it.
-use Rattle.std.specs.Prelude.{◌≡◌, ℕ, suc, ◌+◌, ◌*◌, ◌/◌, ◌-◌, ◌<◌, ◌≤◌, ◌↔◌, min, drop, Bool, IsTrue, cond, eqb, Option, Some, None, List, [], ◌++◌, length, get_or, take, slice_get}
-use Rattle.std.specs.List.{AllByRecursion}
+use Rattle.std.specs.Prelude.{◌≡◌, ℕ, suc, ◌+◌, ◌*◌, ◌/◌, ◌-◌, ◌^◌, ◌<◌, ◌≤◌, ◌↔◌, min, drop, Bool, IsTrue, cond, eqb, Option, Some, None, IfSome, List, [], ◌++◌, length, get_or, take, slice_get}
+use Rattle.std.specs.List.{All, AllByRecursion}
 use Rattle.zeta_model.specs.Sums.{Sum}
 use Rattle.linear_model.specs.Rows.{SameRow, SameSpan, combination}
 use Rattle.outside_io.specs.Moments.{Moment, settled}
@@ -22,14 +22,19 @@ use Rattle.page_codec.specs.declared.parts.FinalEntry.{FinalEntry}
 use Rattle.page_codec.specs.declared.page.Page.{Page}
 use Rattle.page_codec.specs.declared.page.Page.TheVariants.{Header, Forward, Final, Done}
 use Rattle.page_codec.specs.Bounds.{IsPage}
-use Rattle.page_codec.specs.Places.{AreBelow, AllFit, block_count}
+use Rattle.page_codec.specs.Places.{WalkAt, AreBelow, AllFit, block_count, walk_of}
 use Rattle.page_rows.specs.Written.{written}
-use Rattle.page_file.specs.Files.{ReadsAs, file_of}
+use Rattle.page_file.specs.Files.{IsSealed, ReadsAs, file_of}
 use Rattle.page_file.specs.Notes.{Notes}
 use Rattle.page_file.specs.Stays.{Passes}
 use Rattle.file_model.specs.TableOf.{IsTableOf}
-use Rattle.file_model.specs.Pages.{Work, IsWork, IsRecorded, ArePages, forward_page, final_page}
-use Rattle.file_model.specs.Resuming.{combination_in}
+use Rattle.file_model.specs.Pages.{Work, IsWork, IsRecorded, ArePages, numbers_of, forward_page, final_page}
+use Rattle.file_model.specs.Resuming.{combination_in, entries_of, blocks_of}
+use Rattle.file_model.specs.Builds.{work_from}
+use Rattle.table_build.specs.declared.fault.WorkFault.{WorkFault}
+use Rattle.table_build.specs.declared.fault.WorkFault.TheVariants as stopped
+use Rattle.table_build.specs.declared.fault.ResumeFault.{ResumeFault}
+use Rattle.table_build.specs.declared.fault.ResumeFault.TheVariants as resumed
 
 -- ---- the disk
 
@@ -126,6 +131,15 @@ abbrev pub AreFresh : {E : Type 0} → ℕ → (E → ℕ) → ColumnList → Wo
 AreFresh m value columns work first numbers rows uses starts = (j : ℕ) → j < length uses
     → IsMadeOf m columns work (suc (get_or numbers (first + j) 0)) (first + j) (row_at value rows) (row_at value rows (first + j)) (row_at value starts j)
     (used_at value numbers (get_or uses j []))
+
+-- so many sums that are being made, each with an accumulator of the ring for each of these numbers
+pub record AreTotals {A : Type 0} (is_sum : A → Type 0) (numbers : List ℕ) (count : ℕ) (sums : List (List A)) : Type 0 where
+  pub bound : ℕ
+  pub few : bound ≤ 2 ^ 32
+  pub above : (i : ℕ) → i < length numbers → get_or numbers i 0 < bound
+  pub count_is : length sums ≡ count
+  pub size : (j : ℕ) → j < length sums → length (get_or sums j []) ≡ bound
+  pub are_sums : (j : ℕ) → j < length sums → All is_sum (get_or sums j [])
 
 -- as many of each, and of the ring
 pub record AreSums {E : Type 0} (has : E → Bool) (count : ℕ) (uses starts : List (List (ℕ × E))) : Type 0 where
@@ -290,3 +304,87 @@ pub record HasBlock {E : Type 0} (m : ℕ) (has : E → Bool) (value : E → ℕ
   pub offered : (course : Course) → HasOffered m value columns course first before_numbers before_rows → HasOffered m value columns course n numbers rows
   pub fresh : (course : Course) → HasOffered m value columns course first before_numbers before_rows
       → AreFresh m value columns course.work (length before_numbers) numbers rows uses starts
+
+-- ---- going on
+
+-- the walk went over these pages
+abbrev pub IsBehind : WalkAt → List Page → Type 0
+IsBehind walk before = walk ≡ walk_of walk.params walk.relations before
+
+-- the pages that are sealed in what the disk tells have P
+abbrev pub IfSealed : (List Page → Type 0) → Option Trace → Type 0
+IfSealed P told = IfSome told (λ t. (sealed : List Page) → IsSealed sealed t.now.contents → P sealed)
+
+-- they are the first ones of these
+abbrev pub AreFirst : List Page → Option Trace → Type 0
+AreFirst pages told = IfSealed (λ sealed. take (length sealed) pages ≡ sealed) told
+
+-- the numbers and rows are those of the entries, in order
+pub record AreRowsOf {E : Type 0} (value : E → ℕ) (entries : List ForwardEntry) (numbers : List ℕ) (rows : List (List (ℕ × E))) : Type 0 where
+  pub numbers_are : numbers ≡ numbers_of entries
+  pub count : length rows ≡ length entries
+  pub rows_are : (i : ℕ) (e : ForwardEntry) → slice_get entries i ≡ Some e → e.row ≡ written value (get_or rows i [])
+
+-- so are those of what the pages keep
+abbrev pub AreRowsOn : {E : Type 0} → (E → ℕ) → List Page → List ℕ → List (List (ℕ × E)) → Type 0
+AreRowsOn value pages numbers rows = AreRowsOf value (entries_of pages) numbers rows
+
+-- the forward pages that are sealed are those of the work
+abbrev pub HasForward : List Page → ℕ → Option Trace → Type 0
+HasForward pages blocks told = IfSealed (λ sealed. (b : ℕ) → b < blocks → slice_get sealed (1 + b) ≡ slice_get pages (1 + b)) told
+
+-- all relations were offered, the final rows are these, each made of the forward rows, whose pages are sealed
+pub record HaveFinals {E : Type 0} (m : ℕ) (value : E → ℕ) (columns : ColumnList) (course : Course) (blocks : ℕ) (numbers : List ℕ)
+    (rows finals uses : List (List (ℕ × E))) (told : Option Trace) : Type 0 where
+  pub forward : HasForward course.pages blocks told
+  pub finished : HasFinished m value columns course numbers rows finals
+  pub made : AreMade m value columns course.work numbers rows finals uses
+
+-- the course of going on from sealed pages: it begins behind their blocks, its first page is the header, and its first forward pages are theirs
+pub record IsGoingOn (m : ℕ) (columns : ColumnList) (params : Params) (sealed : List Page) (course : Course) : Type 0 where
+  pub is_course : IsCourse m columns course
+  pub params_are : course.params ≡ params
+  pub work_is : course.work ≡ work_from params columns sealed
+  pub from : course.from ≡ min (64 * blocks_of sealed) (count_of columns)
+  pub header : slice_get course.pages 0 ≡ Some (Header params)
+  pub forward : (b : ℕ) → b < blocks_of sealed → slice_get course.pages (1 + b) ≡ slice_get sealed (1 + b)
+
+-- a fault of a page that is read again
+abbrev pub IsReadFault : Type 0 → Type 0 → ResumeFault → Type 0
+IsReadFault rose silent resumed.DiskFault = rose
+IsReadFault rose silent (resumed.Foreign n) = ⊥
+IsReadFault rose silent (resumed.BadPage i) = silent
+IsReadFault rose silent (resumed.Other q) = ⊥
+IsReadFault rose silent (resumed.Misfit i) = ⊥
+IsReadFault rose silent (resumed.NoInverseWord value word) = ⊥
+IsReadFault rose silent (resumed.NotForward i) = ⊥
+IsReadFault rose silent (resumed.NoInverseRelation value n) = ⊥
+IsReadFault rose silent (resumed.Differs i) = silent
+IsReadFault rose silent (resumed.Memory e) = Unit {0}
+
+-- the first so many pages that are sealed are these
+abbrev pub AreFirstUpTo : List Page → ℕ → Option Trace → Type 0
+AreFirstUpTo pages n told = IfSealed (λ sealed. (i : ℕ) → i < n → slice_get sealed i ≡ slice_get pages i) told
+
+-- a fault of comparing: a page that is told differs, where the disk tells
+abbrev pub IsCompareFault : Type 0 → Type 0 → (ℕ → Type 0) → WorkFault → Type 0
+IsCompareFault rose silent differs stopped.DiskFault = rose
+IsCompareFault rose silent differs (stopped.BadPage i) = silent
+IsCompareFault rose silent differs (stopped.NoInverse value n) = ⊥
+IsCompareFault rose silent differs (stopped.Differs i) = differs i
+IsCompareFault rose silent differs (stopped.Memory e) = Unit {0}
+
+-- a fault of going on from final pages: a page that is told differs where nothing was done yet
+abbrev pub IsGoneFault : Type 0 → Type 0 → (ℕ → Type 0) → WorkFault → Type 0
+IsGoneFault rose silent differs stopped.DiskFault = rose
+IsGoneFault rose silent differs (stopped.BadPage i) = silent
+IsGoneFault rose silent differs (stopped.NoInverse value n) = ⊥
+IsGoneFault rose silent differs (stopped.Differs i) = differs i
+IsGoneFault rose silent differs (stopped.Memory e) = Unit {0}
+
+-- the rows of the sealed blocks are put back, and their pages are the first ones of the work, whatever is pending
+pub record IsStarted {E : Type 0} (m : ℕ) (value : E → ℕ) (columns : ColumnList) (params : Params) (course : Course) (b : ℕ) (numbers : List ℕ)
+    (rows : List (List (ℕ × E))) (told : Option Trace) : Type 0 where
+  pub offered : HasOffered m value columns course (min (64 * b) (count_of columns)) numbers rows
+  pub header : slice_get course.pages 0 ≡ Some (Header params)
+  pub first : AreFirst course.pages told

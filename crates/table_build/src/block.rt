@@ -1,5 +1,5 @@
 //! The relations of a block, and their forward rows.
-ghost use Rattle.std.specs.Prelude.{◌≡◌, ◌≢◌, ℕ, suc, ◌+◌, ◌*◌, ◌<◌, ◌≤◌, ◌∷◌, ◌++◌, [], true, IfOk, IfErr, OnOk, length, get_or, List};
+ghost use Rattle.std.specs.Prelude.{◌≡◌, ◌≢◌, ℕ, suc, ◌+◌, ◌*◌, ◌<◌, ◌≤◌, ◌∷◌, ◌++◌, [], true, IsErrOf, IfOk, IfErr, OnOk, length, get_or, List};
 ghost use Rattle.sparse_rows.specs.Entries.{AllIn};
 ghost use Rattle.echelon.specs.Lists.{entries_of, row_at};
 ghost use Rattle.echelon.specs.Offers.{used_at};
@@ -43,7 +43,7 @@ impl<R: Ring> KeptRows<R> {
     }
 
     // Puts a row behind the others.
-    fn push(&mut self, number: u32, row: Row<R>) -> Result<(), AllocError>
+    pub(crate) fn push(&mut self, number: u32, row: Row<R>) -> Result<(), AllocError>
         ensures { OnOk result ((self.new.numbers.items ≡ self.old.numbers.items ++ number ∷ []) × (self.new.rows.items ≡ self.old.rows.items ++ row ∷ [])) }
     {
         self.numbers.push(number)?;
@@ -118,6 +118,7 @@ pub(crate) fn offer_block<R: Ring>(
     ensures fresh { (course : Course) → HasOffered (R.modulus offering.old.table.ring) (R.value offering.old.table.ring) offering.old.table.columns course first offering.old.echelon.numbers offering.old.echelon.rows
         → IfOk result (λ block. AreFresh (R.modulus offering.old.table.ring) (R.value offering.old.table.ring) offering.old.table.columns course.work
         (length offering.old.echelon.numbers) offering.new.echelon.numbers offering.new.echelon.rows block.uses.items block.starts.items) }
+    ensures no_disk { ¬ (IsErrOf result WorkFault.DiskFault) }
     ensures fault { (course : Course) → HasOffered (R.modulus offering.old.table.ring) (R.value offering.old.table.ring) offering.old.table.columns course first offering.old.echelon.numbers offering.old.echelon.rows
         → IfErr result (HasCauseIn ⊥ ⊥ (λ value n. (first ≤ n) × (n < end) × BreaksFirst (R.modulus offering.old.table.ring) offering.old.table.columns course.work.sums n value)) }
 {

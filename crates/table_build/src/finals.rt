@@ -1,14 +1,14 @@
 //! The final pages: reduced rows, each with its combination.
-ghost use Rattle.std.specs.Prelude.{◌≡◌, ℕ, suc, ◌+◌, ◌-◌, ◌*◌, ◌^◌, ◌<◌, ◌≤◌, min, List, [], Some, None, IsTrue, length, get_or, IfOk, IfErr, IfSome, OnOk};
+ghost use Rattle.std.specs.Prelude.{◌≡◌, ℕ, suc, ◌+◌, ◌-◌, ◌*◌, ◌^◌, ◌<◌, ◌≤◌, min, List, [], Some, None, IsTrue, IsErrOf, length, get_or, slice_get, IfOk, IfErr, IfSome, OnOk};
 ghost use Rattle.outside_io.specs.Causes.{Rose};
 ghost use Rattle.sparse_rows.specs.Entries.{AllIn};
 ghost use Rattle.column_order.specs.Columns.{ColumnList};
 ghost use Rattle.page_codec.specs.Places.{block_count};
-ghost use Rattle.page_file.specs.Notes.{Suits};
+ghost use Rattle.page_file.specs.Notes.{Suits, count_of as page_count};
 ghost use Rattle.echelon.specs.States.{AllIns};
 ghost use Rattle.table_model.specs.ListedSpan.{count_of};
 ghost use Rattle.table_build.specs.Faults.{HasCauseIn};
-ghost use Rattle.table_build.specs.Inner.{Course, AreRows, AreSums, AreFinals, IsPageOfFinals, IsReadyAt, Holds, Keeps};
+ghost use Rattle.table_build.specs.Inner.{Course, AreRows, AreSums, AreFinals, HaveFinals, IsPageOfFinals, IsReadyAt, Holds, Keeps};
 
 use crate::block::KeptRows;
 use crate::fault::WorkFault;
@@ -62,6 +62,94 @@ fn final_page<R: Ring>(
     }))
 }
 
+// The final page of the rows from 64 times `place` on, each with its combination, which is made of the sealed ones.
+fn made_final<D: Disk, R: Ring>(
+    alloc: Global,
+    ring: &R,
+    sealed: &KeptRows<R>,
+    blocks: u32,
+    file: &mut PageFile,
+    disk: &mut D,
+    finals: &Uses<R>,
+    place: u32,
+) -> Result<Page, WorkFault>
+    requires live { IsTrue file.old.is_live }
+    requires suits { IfSome (D.trace disk.old) (λ t. Suits file.old t.now.contents) }
+    requires sealed { blocks < page_count file.old }
+    requires few { blocks < 2 ^ 32 }
+    requires rows { AreRows (R.has ring.now) (64 * blocks) sealed.now.numbers.items sealed.now.rows.items }
+    requires ring { finals.now.rows.ring ≡ ring.now }
+    requires uses { length finals.now.uses.items ≡ length finals.now.rows.rows }
+    requires in_ring { AllIns (R.has ring.now) finals.now.uses.items }
+    requires within { 64 * place < length finals.now.rows.rows }
+    requires few_rows { length finals.now.rows.rows ≤ 2048 }
+    ensures page { (columns : ColumnList) (course : Course) → blocks ≡ block_count (count_of columns)
+        → HaveFinals (R.modulus ring.now) (R.value ring.now) columns course blocks sealed.now.numbers.items sealed.now.rows.items finals.now.rows.rows finals.now.uses.items (D.trace disk.old)
+        → IfOk result (λ page. IfSome (D.trace disk.old) (λ t. slice_get course.pages (1 + blocks + place) ≡ Some page)) }
+    ensures fault { (columns : ColumnList) (course : Course) → blocks ≡ block_count (count_of columns)
+        → HaveFinals (R.modulus ring.now) (R.value ring.now) columns course blocks sealed.now.numbers.items sealed.now.rows.items finals.now.rows.rows finals.now.uses.items (D.trace disk.old)
+        → IfErr result (HasCauseIn (Rose (D.faults disk.old) (D.faults disk.new)) (D.trace disk.old ≡ None) (λ _ _. ⊥)) }
+    ensures same { file.new ≡ file.old }
+    ensures disk { D.trace disk.new ≡ D.trace disk.old }
+    ensures disk_fault { IsErrOf result WorkFault.DiskFault → Rose (D.faults disk.old) (D.faults disk.new) }
+    ensures faults { D.faults disk.old ≤ D.faults disk.new }
+{
+    let first = 64 * place as usize;
+    let end = finals.uses.len().min(first + 64);
+    let uses = &finals.uses[first..end];
+    let starts = match zeros(alloc, uses.len()) {
+        Ok(starts) => starts,
+        Err(fault) => return Err(WorkFault::Memory(fault)),
+    };
+    let made = match with_sealed(alloc, ring, sealed, blocks, file, disk, uses, starts) {
+        Ok(made) => made,
+        Err(fault) => return Err(fault),
+    };
+    match final_page(alloc, ring, &finals.rows, place, &made) {
+        Ok(page) => Ok(page),
+        Err(fault) => Err(WorkFault::Memory(fault)),
+    }
+}
+
+// The page at a place behind the forward pages: a final one, or the last one.
+pub(crate) fn made_page<D: Disk, R: Ring>(
+    alloc: Global,
+    ring: &R,
+    sealed: &KeptRows<R>,
+    blocks: u32,
+    file: &mut PageFile,
+    disk: &mut D,
+    finals: &Uses<R>,
+    place: u32,
+) -> Result<Page, WorkFault>
+    requires live { IsTrue file.old.is_live }
+    requires suits { IfSome (D.trace disk.old) (λ t. Suits file.old t.now.contents) }
+    requires sealed { blocks < page_count file.old }
+    requires few { blocks < 2 ^ 32 }
+    requires rows { AreRows (R.has ring.now) (64 * blocks) sealed.now.numbers.items sealed.now.rows.items }
+    requires ring { finals.now.rows.ring ≡ ring.now }
+    requires uses { length finals.now.uses.items ≡ length finals.now.rows.rows }
+    requires in_ring { AllIns (R.has ring.now) finals.now.uses.items }
+    requires within { place ≤ block_count (length finals.now.rows.rows) }
+    requires few_rows { length finals.now.rows.rows ≤ 2048 }
+    ensures page { (columns : ColumnList) (course : Course) → blocks ≡ block_count (count_of columns)
+        → HaveFinals (R.modulus ring.now) (R.value ring.now) columns course blocks sealed.now.numbers.items sealed.now.rows.items finals.now.rows.rows finals.now.uses.items (D.trace disk.old)
+        → IfOk result (λ page. IfSome (D.trace disk.old) (λ t. slice_get course.pages (1 + blocks + place) ≡ Some page)) }
+    ensures fault { (columns : ColumnList) (course : Course) → blocks ≡ block_count (count_of columns)
+        → HaveFinals (R.modulus ring.now) (R.value ring.now) columns course blocks sealed.now.numbers.items sealed.now.rows.items finals.now.rows.rows finals.now.uses.items (D.trace disk.old)
+        → IfErr result (HasCauseIn (Rose (D.faults disk.old) (D.faults disk.new)) (D.trace disk.old ≡ None) (λ _ _. ⊥)) }
+    ensures same { file.new ≡ file.old }
+    ensures disk { D.trace disk.new ≡ D.trace disk.old }
+    ensures disk_fault { IsErrOf result WorkFault.DiskFault → Rose (D.faults disk.old) (D.faults disk.new) }
+    ensures faults { D.faults disk.old ≤ D.faults disk.new }
+{
+    let count = finals.rows.len();
+    if place == (count + 63) / 64 {
+        return Ok(Page::Done { rows: count as u16 });
+    }
+    made_final(alloc, ring, sealed, blocks, file, disk, finals, place)
+}
+
 // Seals the final page of the rows from 64 times `place` on.
 fn seal_final<D: Disk, R: Ring>(
     alloc: Global,
@@ -93,27 +181,18 @@ fn seal_final<D: Disk, R: Ring>(
     ensures fault { (columns : ColumnList) (course : Course) → blocks ≡ block_count (count_of columns)
         → AreFinals (R.modulus ring.now) (R.value ring.now) columns course (1 + blocks + place) sealed.now.numbers.items sealed.now.rows.items finals.now.rows.rows finals.now.uses.items (D.trace disk.old)
         → IfErr result (HasCauseIn (Rose (D.faults disk.old) (D.faults disk.new)) (D.trace disk.old ≡ None) (λ _ _. ⊥)) }
+    ensures untold { D.trace disk.old ≡ None → D.trace disk.new ≡ None }
+    ensures disk_fault { IsErrOf result WorkFault.DiskFault → Rose (D.faults disk.old) (D.faults disk.new) }
     ensures faults { D.faults disk.old ≤ D.faults disk.new }
 {
-    let first = 64 * place as usize;
-    let end = finals.uses.len().min(first + 64);
-    let uses = &finals.uses[first..end];
-    let starts = match zeros(alloc, uses.len()) {
-        Ok(starts) => starts,
-        Err(fault) => return Err(WorkFault::Memory(fault)),
-    };
-    let made = match with_sealed(alloc, ring, sealed, blocks, file, disk, uses, starts) {
-        Ok(made) => made,
-        Err(fault) => return Err(fault),
-    };
-    let page = match final_page(alloc, ring, &finals.rows, place, &made) {
+    let page = match made_final(alloc, ring, sealed, blocks, file, disk, finals, place) {
         Ok(page) => page,
-        Err(fault) => return Err(WorkFault::Memory(fault)),
+        Err(fault) => return Err(fault),
     };
     seal(file, disk, &page)
 }
 
-// Seals the final pages, and the last one.
+// Seals the final pages from a place on, and the last one, if it is not sealed.
 pub(crate) fn seal_finals<D: Disk, R: Ring>(
     alloc: Global,
     ring: &R,
@@ -122,8 +201,10 @@ pub(crate) fn seal_finals<D: Disk, R: Ring>(
     file: &mut PageFile,
     disk: &mut D,
     finals: &Uses<R>,
+    first: u32,
 ) -> Result<(), WorkFault>
-    requires ready { IsReadyAt (1 + blocks) file.old }
+    requires ready { IsReadyAt (1 + blocks + first) file.old }
+    requires from { first ≤ block_count (length finals.now.rows.rows) + 1 }
     requires suits { IfSome (D.trace disk.old) (λ t. Suits file.old t.now.contents) }
     requires few { blocks < 2 ^ 32 }
     requires rows { AreRows (R.has ring.now) (64 * blocks) sealed.now.numbers.items sealed.now.rows.items }
@@ -133,18 +214,24 @@ pub(crate) fn seal_finals<D: Disk, R: Ring>(
     requires few_rows { length finals.now.rows.rows ≤ 2048 }
     ensures ready { OnOk result (IsReadyAt (2 + blocks + block_count (length finals.now.rows.rows)) file.new) }
     ensures keeps { (columns : ColumnList) (course : Course) → blocks ≡ block_count (count_of columns)
-        → AreFinals (R.modulus ring.now) (R.value ring.now) columns course (1 + blocks) sealed.now.numbers.items sealed.now.rows.items finals.now.rows.rows finals.now.uses.items (D.trace disk.old)
-        → Keeps course.pages (1 + blocks) (D.trace disk.old) (D.trace disk.new) }
+        → AreFinals (R.modulus ring.now) (R.value ring.now) columns course (1 + blocks + first) sealed.now.numbers.items sealed.now.rows.items finals.now.rows.rows finals.now.uses.items (D.trace disk.old)
+        → Keeps course.pages (1 + blocks + first) (D.trace disk.old) (D.trace disk.new) }
     ensures holds { (columns : ColumnList) (course : Course) → blocks ≡ block_count (count_of columns)
-        → AreFinals (R.modulus ring.now) (R.value ring.now) columns course (1 + blocks) sealed.now.numbers.items sealed.now.rows.items finals.now.rows.rows finals.now.uses.items (D.trace disk.old)
+        → AreFinals (R.modulus ring.now) (R.value ring.now) columns course (1 + blocks + first) sealed.now.numbers.items sealed.now.rows.items finals.now.rows.rows finals.now.uses.items (D.trace disk.old)
         → OnOk result (Holds course.pages (length course.pages) (D.trace disk.new)) }
     ensures fault { (columns : ColumnList) (course : Course) → blocks ≡ block_count (count_of columns)
-        → AreFinals (R.modulus ring.now) (R.value ring.now) columns course (1 + blocks) sealed.now.numbers.items sealed.now.rows.items finals.now.rows.rows finals.now.uses.items (D.trace disk.old)
+        → AreFinals (R.modulus ring.now) (R.value ring.now) columns course (1 + blocks + first) sealed.now.numbers.items sealed.now.rows.items finals.now.rows.rows finals.now.uses.items (D.trace disk.old)
         → IfErr result (HasCauseIn (Rose (D.faults disk.old) (D.faults disk.new)) (D.trace disk.old ≡ None) (λ _ _. ⊥)) }
+    ensures untold { D.trace disk.old ≡ None → D.trace disk.new ≡ None }
+    ensures disk_fault { IsErrOf result WorkFault.DiskFault → Rose (D.faults disk.old) (D.faults disk.new) }
     ensures faults { D.faults disk.old ≤ D.faults disk.new }
 {
     let count = finals.rows.len();
-    for place in 0..(count + 63) / 64 {
+    let end = (count + 63) / 64;
+    if first > end {
+        return Ok(());
+    }
+    for place in first..end {
         if let Err(fault) = seal_final(alloc, ring, sealed, blocks, file, disk, finals, place) {
             return Err(fault);
         }

@@ -1,5 +1,5 @@
 //! The listed relations of a table, and the elimination to which they are offered in turn.
-ghost use Rattle.std.specs.Prelude.{◌≡◌, ◌≢◌, ℕ, suc, ◌+◌, ◌*◌, ◌<◌, ◌≤◌, ◌∷◌, ◌++◌, [], true, IsTrue, IfOk, IfErr, OnOk, length, List};
+ghost use Rattle.std.specs.Prelude.{◌≡◌, ◌≢◌, ℕ, suc, ◌+◌, ◌*◌, ◌<◌, ◌≤◌, ◌∷◌, ◌++◌, [], true, IsTrue, IsErrOf, IfOk, IfErr, OnOk, length, List};
 ghost use Rattle.sparse_rows.specs.Entries.{AllIn, IsBelow};
 ghost use Rattle.column_order.specs.Columns.{ColumnList};
 ghost use Rattle.relation_list.specs.Names.{is_name_of, weight_of_name, depth_of_name};
@@ -67,6 +67,7 @@ impl<R: Ring> Offering<R> {
             → IfOk result (λ traced. IfAccepted traced (λ row scale uses. IsMadeOf (R.modulus self.old.table.ring) self.old.table.columns course.work (suc n) (length self.old.echelon.rows)
             (row_at (R.value self.old.table.ring) self.old.echelon.rows) (entries_of (R.value self.old.table.ring) row)
             (entries_of (R.value self.old.table.ring) ((n, scale) ∷ [])) (used_at (R.value self.old.table.ring) self.old.echelon.numbers uses))) }
+        ensures no_disk { ¬ (IsErrOf result WorkFault.DiskFault) }
         ensures fault { (course : Course) → HasOffered (R.modulus self.old.table.ring) (R.value self.old.table.ring) self.old.table.columns course n self.old.echelon.numbers self.old.echelon.rows
             → IfErr result (HasCauseIn ⊥ ⊥ (λ value k. (k ≡ n) × BreaksFirst (R.modulus self.old.table.ring) self.old.table.columns course.work.sums n value)) }
     {

@@ -1,8 +1,9 @@
 //! Combinations of forward rows, read again from the pages on which they are sealed.
-ghost use Rattle.std.specs.Prelude.{◌≡◌, ◌↔◌, ℕ, ◌+◌, ◌-◌, ◌*◌, ◌/◌, ◌<◌, ◌≤◌, List, [], Some, IsTrue, length, get_or, slice_get, IfOk, IfErr, IfSome};
+ghost use Rattle.std.specs.Prelude.{◌≡◌, ◌↔◌, ℕ, ◌+◌, ◌-◌, ◌*◌, ◌/◌, ◌<◌, ◌≤◌, List, [], Some, IsTrue, length, get_or, slice_get, IfOk, IfErr, IfSome, OnOk};
 ghost use Rattle.linear_model.specs.Rows.{combination, SameRow};
 ghost use Rattle.outside_io.specs.Causes.{Rose};
-ghost use Rattle.sparse_rows.specs.Entries.{IsRow, AllIn};
+ghost use Rattle.sparse_rows.specs.Entries.{IsRow, IsBelow, AllIn};
+ghost use Rattle.row_sums.specs.Totals.{total_at};
 ghost use Rattle.page_codec.specs.declared.page.Page.{Page};
 ghost use Rattle.page_codec.specs.Places.{AreBelow};
 ghost use Rattle.page_codec.specs.Bounds.{IsCombData};
@@ -15,16 +16,17 @@ ghost use Rattle.echelon.specs.States.{AllIns};
 ghost use Rattle.file_model.specs.Pages.{pairs_of};
 ghost use Rattle.file_model.specs.Resuming.{combination_in};
 ghost use Rattle.table_build.specs.Faults.{HasCauseIn};
-ghost use Rattle.table_build.specs.Inner.{AreSums, AreRows, AreRising, IsRun, IsKeptEntry, AreKeptEntries, IsKeptPage, AllKept, between, entries_on, sealed_combination};
+ghost use Rattle.table_build.specs.Inner.{AreSums, AreTotals, AreRows, AreRising, IsRun, IsKeptEntry, AreKeptEntries, IsKeptPage, AllKept, between, entries_on, sealed_combination};
 
 use crate::block::KeptRows;
 use crate::fault::{WorkFault, work_fault};
-use crate::summing::all_added;
+use crate::totals::{add_all_used, all_ended, no_totals};
 use outside_io::Disk;
 use page_codec::{CombData, ForwardEntry, Page, RowData};
 use page_file::PageFile;
 use page_rows::combination_of_data;
 use residues::Ring;
+use row_sums::RowSum;
 use sparse_rows::{Combination, Row};
 use std::alloc::{AllocError, Global};
 
@@ -104,6 +106,7 @@ fn combinations_of<R: Ring>(
     requires residues { (i : ℕ) (e : _) → slice_get entries.now i ≡ Some e → AreResidues (λ k. k) (R.modulus ring.now) e.combination }
     ensures count { IfOk result (λ made. length made.items ≡ length entries.now) }
     ensures in_ring { IfOk result (λ made. AllIns (R.has ring.now) made.items) }
+    ensures written { IfOk result (λ made. (i : ℕ) (e : _) → slice_get entries.now i ≡ Some e → written (R.value ring.now) (get_or made.items i []) ≡ e.combination) }
     ensures made { IfOk result (λ made. (i : ℕ) (e : _) → slice_get entries.now i ≡ Some e → (q : ℕ) → row_at (R.value ring.now) made.items i q ≡ pairs_of e.combination q) }
 {
     let mut made = Vec::with_capacity(alloc, entries.len())?;
@@ -132,6 +135,7 @@ fn read_block<D: Disk, R: Ring>(
     requires rising { AreRising numbers.now }
     ensures count { IfOk result (λ made. length made.items ≡ length numbers.now) }
     ensures in_ring { IfOk result (λ made. AllIns (R.has ring.now) made.items) }
+    ensures below { IfOk result (λ made. (i : ℕ) → i < length numbers.now → IsBelow (λ k. k) (get_or numbers.now i 0 + 1) (get_or made.items i [])) }
     ensures told { IfOk result (λ made. IfSome (D.trace disk.old) (λ t. (pages : List Page) → IsSealed pages t.now.contents
         → (i : ℕ) → i < length numbers.now → (q : ℕ) → row_at (R.value ring.now) made.items i q ≡ combination_in (entries_on (slice_get pages (1 + block))) (get_or numbers.now i 0) q)) }
     ensures fault { IfErr result (HasCauseIn (Rose (D.faults disk.old) (D.faults disk.new)) (IfSome (D.trace disk.old) (λ t. (pages : List Page) → IsSealed pages t.now.contents
@@ -174,8 +178,8 @@ fn end_of_block(numbers: &[u32], block: u32, done: usize) -> usize
     numbers.len()
 }
 
-// The sums, plus the combinations of the rows of a block from place `done` to below `end`, each as often as the uses say.
-fn with_block<D: Disk, R: Ring>(
+// Adds to each sum the combinations of the rows of a block from place `done` to below `end`, each as often as its uses say.
+fn add_block<D: Disk, R: Ring>(
     alloc: Global,
     ring: &R,
     kept: &KeptRows<R>,
@@ -185,17 +189,18 @@ fn with_block<D: Disk, R: Ring>(
     done: usize,
     end: usize,
     uses: &[Combination<R>],
-    sums: Vec<Combination<R>>,
-) -> Result<Vec<Combination<R>>, WorkFault>
+    sums: &mut [RowSum<R>],
+) -> Result<(), WorkFault>
     requires live { IsTrue file.old.is_live }
     requires suits { IfSome (D.trace disk.old) (λ t. Suits file.old t.now.contents) }
     requires within { 1 + block < page_count file.old }
     requires rows { (bound : ℕ) × AreRows (R.has ring.now) bound kept.now.numbers.items kept.now.rows.items }
     requires run { IsRun kept.now.numbers.items block done end }
-    requires sums { AreSums (R.has ring.now) (length sums.items) uses.now sums.items }
-    ensures count { IfOk result (λ made. AreSums (R.has ring.now) (length sums.items) uses.now made.items) }
-    ensures told { IfOk result (λ made. IfSome (D.trace disk.old) (λ t. (pages : List Page) → IsSealed pages t.now.contents
-        → (j : ℕ) → j < length sums.items → SameRow (R.modulus ring.now) (row_at (R.value ring.now) made.items j) (λ q. row_at (R.value ring.now) sums.items j q
+    requires uses_in_ring { AllIns (R.has ring.now) uses.now }
+    requires totals { AreTotals (R.is_sum ring.now) kept.now.numbers.items (length uses.now) sums.old }
+    ensures totals { AreTotals (R.is_sum ring.now) kept.now.numbers.items (length uses.now) sums.new }
+    ensures told { OnOk result (IfSome (D.trace disk.old) (λ t. (pages : List Page) → IsSealed pages t.now.contents
+        → (j : ℕ) → j < length uses.now → SameRow (R.modulus ring.now) (total_at (R.total ring.now) (get_or sums.new j [])) (λ q. total_at (R.total ring.now) (get_or sums.old j []) q
         + combination (end - done) (λ i. sealed_combination pages (get_or kept.now.numbers.items (done + i) 0)) (λ i. used_at (R.value ring.now) kept.now.numbers.items (get_or uses.now j []) (done + i)) q))) }
     ensures fault { IfErr result (HasCauseIn (Rose (D.faults disk.old) (D.faults disk.new)) (IfSome (D.trace disk.old) (λ t. (pages : List Page) → IsSealed pages t.now.contents
         → (blocks : ℕ) → block < blocks → ¬ (AllKept (R.modulus ring.now) R.zero (R.value ring.now) blocks kept.now.numbers.items kept.now.rows.items pages))) (λ _ _. ⊥)) }
@@ -204,25 +209,13 @@ fn with_block<D: Disk, R: Ring>(
     ensures faults { D.faults disk.old ≤ D.faults disk.new }
 {
     if done == end {
-        return Ok(sums);
+        return Ok(());
     }
     let numbers = &kept.numbers[done..end];
-    let combinations = match read_block(
-        alloc,
-        ring,
-        file,
-        disk,
-        block,
-        numbers,
-        &kept.rows[done..end],
-    ) {
-        Ok(combinations) => combinations,
-        Err(fault) => return Err(fault),
-    };
-    match all_added(alloc, ring, &sums, uses, numbers, &combinations) {
-        Ok(made) => Ok(made),
-        Err(fault) => Err(WorkFault::Memory(fault)),
-    }
+    let rows = &kept.rows[done..end];
+    let combinations = read_block(alloc, ring, file, disk, block, numbers, rows)?;
+    add_all_used(ring, sums, uses, numbers, &combinations);
+    Ok(())
 }
 
 // The sums, plus the sealed combinations of all rows kept, each as often as the uses say. Each page with entries is read once.
@@ -251,15 +244,14 @@ pub(crate) fn with_sealed<D: Disk, R: Ring>(
     ensures disk { D.trace disk.new ≡ D.trace disk.old }
     ensures faults { D.faults disk.old ≤ D.faults disk.new }
 {
-    let mut sums = starts;
+    let mut sums = no_totals(alloc, ring, &kept.numbers, uses.len())?;
     let mut done = 0;
     for block in 0..blocks {
         let end = end_of_block(&kept.numbers, block, done);
-        sums = match with_block(alloc, ring, kept, file, disk, block, done, end, uses, sums) {
-            Ok(sums) => sums,
-            Err(fault) => return Err(fault),
-        };
+        add_block(
+            alloc, ring, kept, file, disk, block, done, end, uses, &mut sums,
+        )?;
         done = end;
     }
-    Ok(sums)
+    Ok(all_ended(alloc, ring, &starts, &sums)?)
 }

@@ -1,5 +1,5 @@
 //! Pages of rows, made and sealed.
-ghost use Rattle.std.specs.Prelude.{◌≡◌, ℕ, suc, ◌+◌, ◌*◌, ◌^◌, ◌<◌, ◌≤◌, ◌++◌, List, [], Some, None, IsTrue, IsSome, length, get_or, slice_get, IfOk, IfErr, IfSome, OnOk};
+ghost use Rattle.std.specs.Prelude.{◌≡◌, ℕ, suc, ◌+◌, ◌*◌, ◌^◌, ◌<◌, ◌≤◌, ◌++◌, List, [], Some, None, IsTrue, IsErrOf, IsSome, length, get_or, slice_get, IfOk, IfErr, IfSome, OnOk};
 ghost use Rattle.outside_io.specs.Causes.{Rose};
 ghost use Rattle.linear_model.specs.Rows.{combination, SameRow};
 ghost use Rattle.column_order.specs.Columns.{ColumnList};
@@ -36,6 +36,8 @@ pub(crate) fn seal<D: Disk>(file: &mut PageFile, disk: &mut D, page: &Page) -> R
     ensures keeps { (pages : List Page) (k : ℕ) → slice_get pages k ≡ Some page.now → Holds pages k (D.trace disk.old) → Keeps pages k (D.trace disk.old) (D.trace disk.new) }
     ensures holds { (pages : List Page) (k : ℕ) → slice_get pages k ≡ Some page.now → Holds pages k (D.trace disk.old) → OnOk result (Holds pages (suc k) (D.trace disk.new)) }
     ensures fault { IfErr result (HasCauseIn (Rose (D.faults disk.old) (D.faults disk.new)) (¬ (IsPage page.now)) (λ _ _. ⊥)) }
+    ensures untold { D.trace disk.old ≡ None → D.trace disk.new ≡ None }
+    ensures disk_fault { IsErrOf result WorkFault.DiskFault → Rose (D.faults disk.old) (D.faults disk.new) }
     ensures faults { D.faults disk.old ≤ D.faults disk.new }
 {
     if !is_page(page) {
@@ -102,6 +104,7 @@ fn combinations_of<D: Disk, R: Ring>(
         → ¬ (AllKept (R.modulus ring.now) R.zero (R.value ring.now) number sealed.now.numbers.items sealed.now.rows.items pages))) (λ _ _. ⊥)) }
     ensures same { file.new ≡ file.old }
     ensures disk { D.trace disk.new ≡ D.trace disk.old }
+    ensures disk_fault { IsErrOf result WorkFault.DiskFault → Rose (D.faults disk.old) (D.faults disk.new) }
     ensures faults { D.faults disk.old ≤ D.faults disk.new }
 {
     let sums = match with_sealed(alloc, ring, sealed, number, file, disk, uses, starts) {
@@ -166,6 +169,8 @@ pub(crate) fn seal_block<D: Disk, R: Ring>(
     ensures fault { (columns : ColumnList) (course : Course) → IsBlock (R.modulus ring.now) (R.value ring.now) columns course number
         sealed.old.numbers.items sealed.old.rows.items block.kept.numbers.items block.kept.rows.items block.uses.items block.starts.items (D.trace disk.old)
         → IfErr result (HasCauseIn (Rose (D.faults disk.old) (D.faults disk.new)) (D.trace disk.old ≡ None) (λ _ _. ⊥)) }
+    ensures untold { D.trace disk.old ≡ None → D.trace disk.new ≡ None }
+    ensures disk_fault { IsErrOf result WorkFault.DiskFault → Rose (D.faults disk.old) (D.faults disk.new) }
     ensures faults { D.faults disk.old ≤ D.faults disk.new }
 {
     let Block { kept, starts, uses } = block;

@@ -39,32 +39,6 @@ fn added<R: Ring>(
     Ok(sum)
 }
 
-// Each start, plus each combination as often as its uses say at the combination's number.
-pub(crate) fn all_added<R: Ring>(
-    alloc: Global,
-    ring: &R,
-    starts: &[Combination<R>],
-    uses: &[Combination<R>],
-    numbers: &[u32],
-    combinations: &[Combination<R>],
-) -> Result<Vec<Combination<R>>, AllocError>
-    requires count { length combinations.now ≤ length numbers.now }
-    requires sums { AreSums (R.has ring.now) (length starts.now) uses.now starts.now }
-    requires all { AllIns (R.has ring.now) combinations.now }
-    ensures count { IfOk result (λ sums. length sums.items ≡ length starts.now) }
-    ensures in_ring { IfOk result (λ sums. AllIns (R.has ring.now) sums.items) }
-    ensures sums { IfOk result (λ sums. (j : ℕ) → j < length starts.now → SameRow (R.modulus ring.now) (row_at (R.value ring.now) sums.items j)
-        (λ q. row_at (R.value ring.now) starts.now j q
-        + combination (length combinations.now) (row_at (R.value ring.now) combinations.now) (used_at (R.value ring.now) numbers.now (get_or uses.now j [])) q)) }
-{
-    let mut sums = Vec::with_capacity(alloc, starts.len())?;
-    for j in 0..starts.len() {
-        let sum = added(ring, &starts[j], &uses[j], numbers, combinations)?;
-        sums.push(sum)?;
-    }
-    Ok(sums)
-}
-
 // Each start, plus the sums before it, each as often as the uses say at its number.
 pub(crate) fn added_in_turn<R: Ring>(
     alloc: Global,

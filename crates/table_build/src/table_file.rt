@@ -1,13 +1,14 @@
 //! Building the file of a table.
-ghost use Rattle.std.specs.Prelude.{◌≡◌, ◌⊎◌, ◌+◌, ◌/◌, ◌<◌, ◌≤◌, ℕ, List, [], Some, None, IsTrue, IsErrOf, IfOk, IfErr, IfSome, OnOk, length, slice_get};
+ghost use Rattle.std.specs.Prelude.{◌≡◌, ◌⊎◌, ◌+◌, ◌/◌, ◌<◌, ◌≤◌, ℕ, List, [], max, Some, None, IsTrue, IsErrOf, IsOk, IfOk, IfErr, IfSome, OnOk, length, slice_get};
 ghost use Rattle.zeta_model.specs.declared.Letter.{Letter};
 ghost use Rattle.zeta_model.specs.Words.{is_admissible};
 ghost use Rattle.outside_io.specs.Causes.{Rose};
+ghost use Rattle.outside_io.specs.Moments.{IsImage};
 ghost use Rattle.column_order.specs.Columns.{ColumnList};
 ghost use Rattle.page_codec.specs.declared.page.Page.{Page};
 ghost use Rattle.page_codec.specs.Bounds.{IsParams};
 ghost use Rattle.page_file.specs.Stays.{Leaves};
-ghost use Rattle.page_file.specs.Notes.{Suits};
+ghost use Rattle.page_file.specs.Notes.{Suits, count_of as page_count};
 ghost use Rattle.table_model.specs.Conversion.{Converts};
 ghost use Rattle.table_model.specs.ListedSpan.{count_of};
 ghost use Rattle.table_model.specs.ReducedRows.{BreaksFirst};
@@ -17,15 +18,16 @@ ghost use Rattle.file_model.specs.Prefixes.{HasPages};
 ghost use Rattle.file_model.specs.Builds.{BuildEnds, IsLeft};
 ghost use Rattle.file_model.specs.Stays.{Stays};
 ghost use Rattle.table_build.specs.Answers.{answer_of, IsWorked, IsRefused};
-ghost use Rattle.table_build.specs.Faults.{HasCauseIn, IsTableFault};
-ghost use Rattle.table_build.specs.Inner.{IsReadyAt, Holds, Keeps, IsCourse, IsBegun, IsEnd, Course};
+ghost use Rattle.table_build.specs.Faults.{HasCauseIn, IsTableFault, table_fault};
+ghost use Rattle.table_build.specs.Inner.{AreFirst, IsReadyAt, Holds, Keeps, IsCourse, IsBegun, IsEnd, Course};
 
+use crate::block::KeptRows;
 use crate::building::work;
 use crate::columns::columns_of;
 use crate::fault::{BuildFault, WorkFault, build_fault, table_fault, work_fault};
 use crate::offering::Offering;
 use crate::sealing::seal;
-use lyndon_polys::LyndonTable;
+use lyndon_polys::{LyndonFault, LyndonTable};
 use outside_io::Disk;
 use page_codec::{Page, Params};
 use page_file::{PageFile, look};
@@ -43,22 +45,57 @@ pub struct Built {
 }
 
 // The table of the parameters.
-fn table_of<R: Ring>(alloc: Global, ring: R, params: &Params) -> Result<LyndonTable<R>, BuildFault>
+pub(crate) fn table_of<R: Ring>(
+    alloc: Global,
+    ring: R,
+    params: &Params,
+) -> Result<LyndonTable<R>, LyndonFault>
     requires modulus { R.modulus ring ≡ params.now.modulus }
     requires params { IsParams params.now }
     ensures ring { IfOk result (λ table. table.ring ≡ ring) }
     ensures columns { IfOk result (λ table. IsTableOf params.now table.columns) }
     ensures converts { IfOk result (λ table. Converts params.now.modulus table.columns) }
-    ensures fault { IfErr result (IsTableFault params.now) }
+    ensures fault { IfErr result (λ fault. IsTableFault params.now (table_fault fault)) }
 {
     let columns = match columns_of(alloc, params) {
         Ok(columns) => columns,
-        Err(fault) => return Err(BuildFault::Memory(fault)),
+        Err(fault) => return Err(LyndonFault::Memory(fault)),
     };
     match LyndonTable::new(alloc, ring, columns) {
         Ok(table) => Ok(table),
-        Err(fault) => Err(table_fault(fault)),
+        Err(fault) => Err(fault),
     }
+}
+
+// Makes the file ready for its next page; the header is sealed where no page is.
+pub(crate) fn begin_again<D: Disk>(
+    params: &Params,
+    file: &mut PageFile,
+    disk: &mut D,
+) -> Result<(), WorkFault>
+    requires params { IsParams params.now }
+    requires live { IsTrue file.old.is_live }
+    requires noted { 0 < length file.old.gates }
+    requires suits { IfSome (D.trace disk.old) (λ t. Suits file.old t.now.contents) }
+    ensures ready { OnOk result (IsReadyAt (max 1 (page_count file.old)) file.new) }
+    ensures suits { OnOk result (IfSome (D.trace disk.new) (λ t. Suits file.new t.now.contents)) }
+    ensures keeps { (pages : List Page) → slice_get pages 0 ≡ Some (Page.Header params.now) → AreFirst pages (D.trace disk.old)
+        → Keeps pages (page_count file.old) (D.trace disk.old) (D.trace disk.new) }
+    ensures holds { (pages : List Page) → slice_get pages 0 ≡ Some (Page.Header params.now) → AreFirst pages (D.trace disk.old)
+        → OnOk result (Holds pages (max 1 (page_count file.old)) (D.trace disk.new)) }
+    ensures fault { IfErr result (HasCauseIn (Rose (D.faults disk.old) (D.faults disk.new)) ⊥ (λ _ _. ⊥)) }
+    ensures untold { D.trace disk.old ≡ None → D.trace disk.new ≡ None }
+    ensures disk_fault { IsErrOf result WorkFault.DiskFault → Rose (D.faults disk.old) (D.faults disk.new) }
+    ensures faults { D.faults disk.old ≤ D.faults disk.new }
+{
+    if let Err(fault) = file.renew(disk) {
+        return Err(work_fault(fault));
+    }
+    if file.count() > 0 {
+        return Ok(());
+    }
+    let header = Page::Header(*params);
+    seal(file, disk, &header)
 }
 
 // Seals the header on a disk that is empty.
@@ -79,11 +116,7 @@ fn begin<D: Disk>(alloc: Global, params: &Params, disk: &mut D) -> Result<PageFi
     if file.count() > 0 {
         return Err(WorkFault::Differs(0));
     }
-    if let Err(fault) = file.renew(disk) {
-        return Err(work_fault(fault));
-    }
-    let header = Page::Header(*params);
-    if let Err(fault) = seal(&mut file, disk, &header) {
+    if let Err(fault) = begin_again(params, &mut file, disk) {
         return Err(fault);
     }
     Ok(file)
@@ -116,7 +149,8 @@ fn build_table<D: Disk, R: Ring>(
         Ok(file) => file,
         Err(fault) => return Err(fault),
     };
-    match work(alloc, &mut offering, &mut file, disk) {
+    let none = KeptRows::none(alloc);
+    match work(alloc, &mut offering, none, &mut file, disk, 0) {
         Ok((relations, rows)) => Ok(Built {
             relations,
             rows,
@@ -151,6 +185,9 @@ pub fn build<D: Disk, R: Ring>(
 
     // Where each image has the first pages of the parameters, a crash at any moment since leaves them.
     ensures moments { (k : ℕ) → Stays (HasPages params.now k) (D.trace disk.old) (D.trace disk.new) }
+
+    // What stood there is what a crash might have left.
+    ensures image { IsOk result → IfSome (D.trace disk.old) (λ t. IsImage t.now t.now.contents) }
     ensures refused { IsRefused result → D.trace disk.new ≡ D.trace disk.old }
     ensures told { (i : ℕ) → (IsErrOf result (BuildFault.BadPage i) ⊎ IsErrOf result (BuildFault.Differs i)) → D.trace disk.old ≡ None }
     ensures word { (value : ℕ) (word : List Letter) → IsErrOf result (BuildFault.NoInverseWord value word) → IsTrue (is_admissible word) }
@@ -166,7 +203,7 @@ pub fn build<D: Disk, R: Ring>(
     }
     let table = match table_of(alloc, ring, params) {
         Ok(table) => table,
-        Err(fault) => return Err(fault),
+        Err(fault) => return Err(table_fault(fault)),
     };
     match build_table(alloc, table, params, disk) {
         Ok(built) => Ok(built),

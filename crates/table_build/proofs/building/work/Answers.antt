@@ -55,9 +55,10 @@ returns-in-Ok-seal_finals-clause-keeps g c = λ course at.
     omega (arith, c.len-relations.ensures, count_is c.args.offering.now.names.items t.columns can.names_are) in
     let all : blocks ≡ block_count (count_of t.columns) =
     ap (λ x. (x + 63) / 64) relations in
-    keeps_then course.pages 1 (1 + blocks) first mid now (omega arith) (done.keeps course at)
+    keeps_then course.pages (1 + c.args.first) (1 + blocks + 0) first mid now (omega arith) (done.keeps course at)
     (c.seal_finals.ensures.keeps t.columns course all
-    (finals_there g.R.Ring.modulus g.R.Ring.has g.R.Ring.value t.ring o.echelon.ring c.ring.result.now t.columns course blocks s.numbers.items o.echelon.numbers
+    (finals_there g.R.Ring.modulus g.R.Ring.has g.R.Ring.value t.ring o.echelon.ring c.ring.result.now t.columns course blocks s.numbers.items
+    o.echelon.numbers
     s.rows.items o.echelon.rows c.in-Ok.finals.rows.rows c.in-Ok.finals.uses.items mid (done.can.ring ∙ table_ring)
     (c.ring.ensures ∙ table_ring) done.numbers done.same_rows all
     found.ok.reduced found.span found.uses (done.at course at)))
@@ -79,7 +80,8 @@ returns-in-Ok-seal_finals-clause-end g c = λ course at.
     omega (arith, c.len-relations.ensures, count_is c.args.offering.now.names.items t.columns can.names_are) in
     let all : blocks ≡ block_count (count_of t.columns) =
     ap (λ x. (x + 63) / 64) relations in
-    let here : AreFinals (g.R.Ring.modulus t.ring) (g.R.Ring.value t.ring) t.columns course (1 + blocks) s.numbers.items s.rows.items c.in-Ok.finals.rows.rows
+    let here : AreFinals (g.R.Ring.modulus t.ring) (g.R.Ring.value t.ring) t.columns course (1 + blocks + 0) s.numbers.items s.rows.items
+    c.in-Ok.finals.rows.rows
     c.in-Ok.finals.uses.items mid =
     finals_there g.R.Ring.modulus g.R.Ring.has g.R.Ring.value t.ring o.echelon.ring t.ring t.columns course blocks s.numbers.items o.echelon.numbers
     s.rows.items o.echelon.rows c.in-Ok.finals.rows.rows c.in-Ok.finals.uses.items mid (done.can.ring ∙ table_ring) refl done.numbers done.same_rows all
@@ -88,7 +90,8 @@ returns-in-Ok-seal_finals-clause-end g c = λ course at.
     subst (λ k. IsEnd (g.R.Ring.modulus t.ring) t.columns course k now) rows
     (end_of (g.R.Ring.modulus t.ring) (g.R.Ring.value t.ring) t.columns course s.numbers.items s.rows.items c.in-Ok.finals.rows.rows now here.finished
     (c.in-Ok-seal_finals.ensures.holds t.columns course all
-    (finals_there g.R.Ring.modulus g.R.Ring.has g.R.Ring.value t.ring o.echelon.ring c.ring.result.now t.columns course blocks s.numbers.items o.echelon.numbers
+    (finals_there g.R.Ring.modulus g.R.Ring.has g.R.Ring.value t.ring o.echelon.ring c.ring.result.now t.columns course blocks s.numbers.items
+    o.echelon.numbers
     s.rows.items o.echelon.rows c.in-Ok.finals.rows.rows c.in-Ok.finals.uses.items mid (done.can.ring ∙ table_ring)
     (c.ring.ensures ∙ table_ring) done.numbers done.same_rows all
     found.ok.reduced found.span found.uses (done.at course at))))
@@ -110,9 +113,10 @@ returns-clause-keeps g c = λ course at.
     omega (arith, c.len-relations.ensures, count_is c.args.offering.now.names.items t.columns can.names_are) in
     let all : blocks ≡ block_count (count_of t.columns) =
     ap (λ x. (x + 63) / 64) relations in
-    keeps_then course.pages 1 (1 + blocks) first mid now (omega arith) (done.keeps course at)
+    keeps_then course.pages (1 + c.args.first) (1 + blocks + 0) first mid now (omega arith) (done.keeps course at)
     (c.seal_finals.ensures.keeps t.columns course all
-    (finals_there g.R.Ring.modulus g.R.Ring.has g.R.Ring.value t.ring o.echelon.ring c.ring.result.now t.columns course blocks s.numbers.items o.echelon.numbers
+    (finals_there g.R.Ring.modulus g.R.Ring.has g.R.Ring.value t.ring o.echelon.ring c.ring.result.now t.columns course blocks s.numbers.items
+    o.echelon.numbers
     s.rows.items o.echelon.rows c.in-Ok.finals.rows.rows c.in-Ok.finals.uses.items mid (done.can.ring ∙ table_ring)
     (c.ring.ensures ∙ table_ring) done.numbers done.same_rows all
     found.ok.reduced found.span found.uses (done.at course at)))
@@ -139,9 +143,11 @@ returns-clause-fault g c = λ course at.
     let d = g.D.Disk.faults c.seal_finals.new.disk in
     cause_more (Rose b d) (mid ≡ None) (Rose a d) (first ≡ None) (λ _ _. ⊥)
     (λ residue n. (n < count_of t.columns) × BreaksFirst (g.R.Ring.modulus t.ring) t.columns course.work.sums n residue × Holds course.pages (1 + n / 64) now)
-    (rose_since a b d done.faults) (keeps_untold course.pages 1 first mid (done.keeps course at)) (λ residue n none. absurd none) c.in-Err-seal_finals.fault
+    (rose_since a b d done.faults) (keeps_untold course.pages (1 + c.args.first) first mid (done.keeps course at)) (λ residue n none. absurd none)
+    c.in-Err-seal_finals.fault
     (c.in-Err-seal_finals.ensures.fault t.columns course all
-    (finals_there g.R.Ring.modulus g.R.Ring.has g.R.Ring.value t.ring o.echelon.ring c.ring.result.now t.columns course blocks s.numbers.items o.echelon.numbers
+    (finals_there g.R.Ring.modulus g.R.Ring.has g.R.Ring.value t.ring o.echelon.ring c.ring.result.now t.columns course blocks s.numbers.items
+    o.echelon.numbers
     s.rows.items o.echelon.rows c.in-Ok.finals.rows.rows c.in-Ok.finals.uses.items mid (done.can.ring ∙ table_ring)
     (c.ring.ensures ∙ table_ring) done.numbers done.same_rows all
     found.ok.reduced found.span found.uses (done.at course at)))

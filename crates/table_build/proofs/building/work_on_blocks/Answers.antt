@@ -1,4 +1,4 @@
-use Rattle.std.proofs.Common.{◌≡◌, ◌+◌, ◌*◌, ◌/◌, ◌<◌, [], refl, sym, ◌∙◌, subst, arith}
+use Rattle.std.proofs.Common.{◌≡◌, ◌+◌, ◌*◌, ◌/◌, ◌<◌, refl, ◌∙◌, subst, arith}
 use Rattle.std.specs.Prelude.{None}
 use Rattle.outside_io.specs.Causes.{Rose}
 use Rattle.lyndon_polys.specs.Tables.{RingTable}
@@ -9,28 +9,23 @@ use Rattle.table_build.specs.Inner.{CanOffer, AreRows, IsAt, IsReadyAt, Holds, K
 use Rattle.table_build.proofs.BuildEndings.{rose_since}
 use Rattle.table_build.proofs.Keepings.{keeps_same, keeps_then, keeps_untold}
 use Rattle.table_build.proofs.CauseSteps.{cause_more}
-use Rattle.table_build.proofs.BlockWork.{no_rows}
 use Rattle.table_build.proofs.building.work_on_blocks.Goals as goal
 
 pub loop-number-init : goal.loop-number-init
 loop-number-init g c =
-    let o = c.args.offering.now in
-    let t = o.table in
-    let s = c.args.sealed.now in
     let trace = g.D.Disk.trace c.args.disk.now in
-    let zeroth : 0 ≡ 64 * 0 = omega arith in
     record {
-      can = subst (λ k. CanOffer t o.names.items o.kept.ring o.echelon k) zeroth c.requires.can;
+      can = c.requires.can;
       table = refl;
       names = refl;
-      numbers = c.requires.numbers.0 ∙ sym c.requires.numbers.1;
-      same_rows = c.requires.same_rows.0 ∙ sym c.requires.same_rows.1;
-      rows = no_rows (g.R.Ring.has t.ring) (64 * 0) s.numbers.items s.rows.items c.requires.numbers.0 c.requires.same_rows.0;
+      numbers = c.requires.numbers;
+      same_rows = c.requires.same_rows;
+      rows = c.requires.rows;
       ready = c.requires.ready;
       suits = c.requires.suits;
-      keeps = λ course at. keeps_same course.pages 1 trace trace refl;
-      at = λ course at. subst (λ xs. IsAt (g.R.Ring.modulus t.ring) (g.R.Ring.value t.ring) t.columns course 0 xs s.rows.items trace) (sym c.requires.numbers.0)
-          (subst (λ xs. IsAt (g.R.Ring.modulus t.ring) (g.R.Ring.value t.ring) t.columns course 0 [] xs trace) (sym c.requires.same_rows.0) at);
+      keeps = λ course at. keeps_same course.pages (1 + c.args.first) trace trace refl;
+      at = λ course at. at;
+      untold = λ none. none;
       faults = omega arith;
     }
 
@@ -59,7 +54,8 @@ loop-number-preserved g c =
           (subst (λ (x : RingTable g.row.R.Denot). AreRows (g.R.Ring.has x.ring) (64 * (1 + number)) s.numbers.items s.rows.items) same told.rows);
       ready = subst (λ k. IsReadyAt k c.work_on_block.new.file) (let z : 2 + number ≡ 1 + (number + 1) = omega arith in z) told.ready;
       suits = told.suits;
-      keeps = λ course at. keeps_then course.pages 1 (1 + number) first mid now (omega arith) (kept.keeps course at)
+      keeps = λ course at. keeps_then course.pages (1 + c.args.first) (1 + number) first mid now (omega (arith, c.loop-number.auto.number))
+          (kept.keeps course at)
           (subst (λ (x : RingTable g.row.R.Denot). IsAt (g.R.Ring.modulus x.ring)
           (g.R.Ring.value x.ring) x.columns course number old.numbers.items old.rows.items mid
           → Keeps course.pages (1 + number) mid now) same (told.keeps course) (kept.at course at));
@@ -68,6 +64,7 @@ loop-number-preserved g c =
           (g.R.Ring.value x.ring) x.columns course number old.numbers.items old.rows.items mid
           → IsAt (g.R.Ring.modulus x.ring) (g.R.Ring.value x.ring) x.columns course (1 + number) s.numbers.items s.rows.items now) same (told.at course)
           (kept.at course at));
+      untold = λ none. c.work_on_block.ensures.untold (kept.untold none);
       faults = omega (arith, kept.faults, told.faults);
     }
 
@@ -80,8 +77,9 @@ returns-in-Err-clause-keeps g c = λ course at.
     let first = g.D.Disk.trace c.args.disk.now in
     let mid = g.D.Disk.trace c.loop-number.disk in
     let now = g.D.Disk.trace c.work_on_block.new.disk in
-    keeps_then course.pages 1 (1 + number) first mid now (omega arith) (kept.keeps course at)
-    (subst (λ (x : RingTable g.row.R.Denot). IsAt (g.R.Ring.modulus x.ring) (g.R.Ring.value x.ring) x.columns course number old.numbers.items old.rows.items mid
+    keeps_then course.pages (1 + c.args.first) (1 + number) first mid now (omega (arith, c.loop-number.auto.number)) (kept.keeps course at)
+    (subst (λ (x : RingTable g.row.R.Denot). IsAt (g.R.Ring.modulus x.ring) (g.R.Ring.value x.ring) x.columns course number old.numbers.items
+    old.rows.items mid
     → Keeps course.pages (1 + number) mid now) kept.table (c.in-Err.ensures.keeps course) (kept.at course at))
 
 pub returns-in-Err-clause-fault : goal.returns-in-Err-clause-fault
@@ -100,7 +98,16 @@ returns-in-Err-clause-fault g c = λ course at.
     cause_more (Rose b d) (mid ≡ None) (Rose a d) (first ≡ None)
     (λ residue n. (n < count_of t.columns) × BreaksFirst m t.columns course.work.sums n residue × Holds course.pages (1 + n / 64) now)
     (λ residue n. (n < count_of t.columns) × BreaksFirst m t.columns course.work.sums n residue × Holds course.pages (1 + n / 64) now)
-    (rose_since a b d kept.faults) (keeps_untold course.pages 1 first mid (kept.keeps course at)) (λ residue n h. h) c.in-Err.fault
-    (subst (λ (x : RingTable g.row.R.Denot). IsAt (g.R.Ring.modulus x.ring) (g.R.Ring.value x.ring) x.columns course number old.numbers.items old.rows.items mid
+    (rose_since a b d kept.faults) (keeps_untold course.pages (1 + c.args.first) first mid (kept.keeps course at)) (λ residue n h. h) c.in-Err.fault
+    (subst (λ (x : RingTable g.row.R.Denot). IsAt (g.R.Ring.modulus x.ring) (g.R.Ring.value x.ring) x.columns course number old.numbers.items
+    old.rows.items mid
     → HasCauseIn (Rose b d) (mid ≡ None) (λ residue n. (n < count_of x.columns) × BreaksFirst (g.R.Ring.modulus x.ring) x.columns course.work.sums n residue
     × Holds course.pages (1 + n / 64) now) c.in-Err.fault) kept.table (c.in-Err.ensures.fault course) (kept.at course at))
+
+pub returns-clause-at : goal.returns-clause-at
+returns-clause-at g c = λ course at.
+    let t = c.args.offering.now.table in
+    let s = c.loop-number.sealed in
+    subst (λ k. IsAt (g.R.Ring.modulus t.ring) (g.R.Ring.value t.ring) t.columns course k s.numbers.items s.rows.items (g.D.Disk.trace c.loop-number.disk))
+    (let e : c.loop-number.number ≡ c.args.blocks = omega (arith, c.loop-number-test.false, c.loop-number.auto.number-end, c.requires.order) in e)
+    (c.loop-number.invariant.at course at)

@@ -1,5 +1,5 @@
-use Rattle.std.proofs.Common.{◌≡◌, ◌+◌, ◌*◌, ◌≤◌, []}
-use Rattle.std.specs.Prelude.{IfSome}
+use Rattle.std.proofs.Common.{◌≡◌, ◌+◌, ◌*◌, ◌≤◌}
+use Rattle.std.specs.Prelude.{IfSome, None}
 use Rattle.page_file.specs.Notes.{Suits}
 use Rattle.table_build.specs.Inner.{Course, CanOffer, AreRows, IsAt, IsReadyAt, Keeps}
 use Rattle.table_build.proofs.building.work_on_blocks.Given as goal
@@ -15,10 +15,12 @@ invariant-loop-number g l = record {
   ready : IsReadyAt (1 + l.number) l.file;
   suits : IfSome (g.D.Disk.trace l.disk) (λ t. Suits l.file t.now.contents);
   keeps : (course : Course) → IsAt (g.R.Ring.modulus l.fn.offering.table.ring) (g.R.Ring.value l.fn.offering.table.ring)
-      l.fn.offering.table.columns course 0 [] [] (g.D.Disk.trace l.fn.disk) → Keeps course.pages 1 (g.D.Disk.trace l.fn.disk) (g.D.Disk.trace l.disk);
+      l.fn.offering.table.columns course l.first l.fn.sealed.numbers.items l.fn.sealed.rows.items (g.D.Disk.trace l.fn.disk) → Keeps course.pages
+      (1 + l.first) (g.D.Disk.trace l.fn.disk) (g.D.Disk.trace l.disk);
   at : (course : Course) → IsAt (g.R.Ring.modulus l.fn.offering.table.ring) (g.R.Ring.value l.fn.offering.table.ring)
-      l.fn.offering.table.columns course 0 [] [] (g.D.Disk.trace l.fn.disk)
+      l.fn.offering.table.columns course l.first l.fn.sealed.numbers.items l.fn.sealed.rows.items (g.D.Disk.trace l.fn.disk)
       → IsAt (g.R.Ring.modulus l.fn.offering.table.ring) (g.R.Ring.value l.fn.offering.table.ring) l.fn.offering.table.columns course l.number
       l.sealed.numbers.items l.sealed.rows.items (g.D.Disk.trace l.disk);
+  untold : g.D.Disk.trace l.fn.disk ≡ None → g.D.Disk.trace l.disk ≡ None;
   faults : g.D.Disk.faults l.fn.disk ≤ g.D.Disk.faults l.disk;
 }

@@ -1,46 +1,22 @@
-use Rattle.std.proofs.Common.{◌≡◌, ℕ, suc, ◌+◌, ◌-◌, ◌*◌, ◌<◌, min, [], List, length, get_or, slice_get, sym, ◌∙◌, subst, arith}
+use Rattle.std.proofs.Common.{◌≡◌, suc, ◌+◌, slice_get, sym, ◌∙◌, subst, arith}
 use Rattle.std.specs.Prelude.{IfSome, OnOk, Some, None}
 use Rattle.outside_io.specs.Causes.{Rose}
-use Rattle.outside_io.specs.Traces.{Trace}
-use Rattle.linear_model.specs.Rows.{combination, SameRow}
-use Rattle.page_codec.specs.declared.page.Page.{Page}
 use Rattle.page_codec.specs.Bounds.{IsPage}
-use Rattle.page_file.specs.Files.{IsSealed}
-use Rattle.echelon.specs.Lists.{row_at}
-use Rattle.echelon.specs.Offers.{used_at}
-use Rattle.echelon.specs.States.{AllIns}
-use Rattle.table_build.specs.Inner.{AreSums, IsReadyAt, IsPageOfFinals, AllKept, Holds, Keeps, between, sealed_combination}
-use Rattle.table_build.proofs.CauseSteps.{cause_more}
-use Rattle.table_build.proofs.KeptBlocks.{between_length}
-use Rattle.table_build.proofs.SealSteps.{told_one, keeps_next, holds_where_done, no_page_untold, cause_where_failed}
-use Rattle.table_build.proofs.FinalSums.{AreFinalSums, next_final_told, finals_untold, final_sums, all_pages}
+use Rattle.table_build.specs.Inner.{IsReadyAt, Holds, Keeps}
+use Rattle.table_build.proofs.SealSteps.{keeps_next, holds_where_done, no_page_untold, cause_where_failed}
+use Rattle.table_build.proofs.FinalSums.{finals_have, all_pages}
 use Rattle.table_build.proofs.finals.seal_final.Goals as goal
 
-pub returns-in-Err-with_sealed-clause-fault : goal.returns-in-Err-with_sealed-clause-fault
-returns-in-Err-with_sealed-clause-fault g c = λ columns course all are.
-    let ring = c.args.ring.now in
-    let m = g.R.Ring.modulus ring in
-    let has = g.R.Ring.has ring in
-    let value = g.R.Ring.value ring in
-    let blocks = c.args.blocks in
-    let place = c.args.place in
-    let k = 1 + c.args.blocks + c.args.place in
-    let old = g.D.Disk.trace c.args.disk.now in
-    let numbers = c.args.sealed.now.numbers.items in
-    let rows = c.args.sealed.now.rows.items in
-    let finals = c.args.finals.now.rows.rows in
-    let uses = c.args.finals.now.uses.items in
-    let rose : Type 0 = Rose (g.D.Disk.faults c.args.disk.now) (g.D.Disk.faults c.with_sealed.new.disk) in
-    cause_more rose (IfSome old (λ t. (pages : List Page) → IsSealed pages t.now.contents → ¬ (AllKept m g.R.Ring.zero value blocks numbers rows pages)))
-    rose (old ≡ None) (λ _ _. ⊥) (λ _ _. ⊥) (λ r. r)
-    (finals_untold m g.R.Ring.zero has value (g.met.R.Ring.has_zero ring) (g.met.R.Ring.value_zero ring) (g.met.R.Ring.value_injective ring)
-    (g.met.R.Ring.value_below ring) course columns blocks k numbers rows finals uses old all are c.requires.rows k (omega arith) old are.holds)
-    (λ _ _ never. never) c.in-Err-with_sealed.fault c.in-Err-with_sealed.ensures.fault
+pub returns-in-Err-clause-fault : goal.returns-in-Err-clause-fault
+returns-in-Err-clause-fault g c = λ columns course all are.
+    c.in-Err.ensures.fault columns course all (finals_have (g.R.Ring.modulus c.args.ring.now) (g.R.Ring.value c.args.ring.now) columns course c.args.blocks
+    (1 + c.args.blocks + c.args.place) c.args.sealed.now.numbers.items c.args.sealed.now.rows.items c.args.finals.now.rows.rows c.args.finals.now.uses.items
+    (g.D.Disk.trace c.args.disk.now) (omega arith) are)
 
 pub returns-clause-ready : goal.returns-clause-ready
 returns-clause-ready g c =
     let k = 1 + c.args.blocks + c.args.place in
-    let ready : IsReadyAt k c.with_sealed.new.file = subst (IsReadyAt k) (sym c.with_sealed.ensures.same) c.requires.ready in
+    let ready : IsReadyAt k c.made_final.new.file = subst (IsReadyAt k) (sym c.made_final.ensures.same) c.requires.ready in
     subst (λ n. OnOk c.seal.result (IsReadyAt n c.seal.new.file)) (let e : suc k ≡ 2 + c.args.blocks + c.args.place = omega arith in e)
     (c.seal.ensures.ready k ready)
 
@@ -48,47 +24,18 @@ pub returns-clause-keeps : goal.returns-clause-keeps
 returns-clause-keeps g c = λ columns course all are.
     let ring = c.args.ring.now in
     let m = g.R.Ring.modulus ring in
-    let has = g.R.Ring.has ring in
     let value = g.R.Ring.value ring in
     let blocks = c.args.blocks in
-    let place = c.args.place in
     let k = 1 + c.args.blocks + c.args.place in
     let old = g.D.Disk.trace c.args.disk.now in
-    let numbers = c.args.sealed.now.numbers.items in
-    let rows = c.args.sealed.now.rows.items in
-    let finals = c.args.finals.now.rows.rows in
-    let uses = c.args.finals.now.uses.items in
-    let mid = g.D.Disk.trace c.with_sealed.new.disk in
+    let mid = g.D.Disk.trace c.made_final.new.disk in
     let now = g.D.Disk.trace c.seal.new.disk in
-    let same : mid ≡ old = c.with_sealed.ensures.disk in
-    let first = 64 * c.args.place in
-    let end = c.min-end.result in
-    let starts = c.in-Ok.starts.items in
-    let made = c.in-Ok-with_sealed.made.items in
-    let page = c.in-Ok-final_page.page in
-    let uses_are : c.deref.result.now ≡ uses = c.deref.ensures.value in
-    let sums_are : AreSums has (length starts) (between first end uses) made =
-    subst (λ (us : List (List (ℕ × g.row.R-Elem.Denot))). AreSums has (length starts) (between first end us) made) uses_are c.in-Ok-with_sealed.ensures.count in
-    let size : length (between first end uses) ≡ end - first = between_length first end uses (omega (arith, c.min-end.ensures, c.len.ensures)) in
-    let short : length made ≡ end - first = omega (arith, size, sums_are.uses_count, sums_are.starts_count) in
-    let count : length made ≡ min 64 (length finals - 64 * place) = omega (arith, short, c.min-end.ensures, c.len.ensures, c.requires.uses) in
-    let in_ring : AllIns has made = λ i l. sums_are.starts_in_ring i (omega (arith, l, sums_are.starts_count)) in
-    let page_is : IsPageOfFinals has g.R.Ring.zero value place finals made page =
-    subst (λ (cs : List (List (ℕ × g.row.R-Elem.Denot))). IsPageOfFinals has g.R.Ring.zero value place finals cs page) c.deref-2.ensures.value
-    c.in-Ok-final_page.ensures in
-    let Known : List (List (ℕ × g.row.R-Elem.Denot)) → Trace → Type 0 = λ us t. (pages : List Page) → IsSealed pages t.now.contents → (j : ℕ)
-    → j < length starts
-    → SameRow m (row_at value made j) (λ q. row_at value starts j q + combination (length numbers) (λ i. sealed_combination pages (get_or numbers i 0))
-    (used_at value numbers (get_or (between first end us) j [])) q) in
-    let sums : IfSome old (λ t. (pages : List Page) → IsSealed pages t.now.contents → AreFinalSums m value numbers (64 * place) uses made pages) =
-    told_one (Known uses) (λ t. (pages : List Page) → IsSealed pages t.now.contents → AreFinalSums m value numbers (64 * place) uses made pages) old
-    (λ t known pages sealed. final_sums m value numbers first end uses starts made pages c.in-Ok.ensures.zero (omega (arith, short))
-    (λ j l. known pages sealed j (omega (arith, l, sums_are.starts_count))))
-    (subst (λ us. IfSome old (Known us)) uses_are c.in-Ok-with_sealed.ensures.told) in
+    let same : mid ≡ old = c.made_final.ensures.disk in
+    let page = c.in-Ok.page in
+    let have = finals_have m value columns course blocks k c.args.sealed.now.numbers.items c.args.sealed.now.rows.items c.args.finals.now.rows.rows
+    c.args.finals.now.uses.items old (omega arith) are in
     let next : IfSome mid (λ t. slice_get course.pages k ≡ Some page) = subst (λ o. IfSome o (λ t. slice_get course.pages k ≡ Some page)) (sym same)
-    (next_final_told m g.R.Ring.zero has value (g.met.R.Ring.has_zero ring) (g.met.R.Ring.value_zero ring) (g.met.R.Ring.value_injective ring)
-    (g.met.R.Ring.value_below ring) course columns blocks k numbers rows finals uses old all are c.requires.rows k (omega arith) place
-    c.requires.within made page in_ring count page_is old are.holds sums) in
+    (c.in-Ok.ensures.page columns course all have) in
     let held : Holds course.pages k mid = subst (Holds course.pages k) (sym same) are.holds in
     subst (λ o. Keeps course.pages k o now) same (keeps_next course.pages k page mid now c.seal.ensures.keeps held next)
 
@@ -96,101 +43,43 @@ pub returns-clause-holds : goal.returns-clause-holds
 returns-clause-holds g c = λ columns course all are.
     let ring = c.args.ring.now in
     let m = g.R.Ring.modulus ring in
-    let has = g.R.Ring.has ring in
     let value = g.R.Ring.value ring in
     let blocks = c.args.blocks in
-    let place = c.args.place in
     let k = 1 + c.args.blocks + c.args.place in
     let old = g.D.Disk.trace c.args.disk.now in
-    let numbers = c.args.sealed.now.numbers.items in
-    let rows = c.args.sealed.now.rows.items in
-    let finals = c.args.finals.now.rows.rows in
-    let uses = c.args.finals.now.uses.items in
-    let mid = g.D.Disk.trace c.with_sealed.new.disk in
+    let mid = g.D.Disk.trace c.made_final.new.disk in
     let now = g.D.Disk.trace c.seal.new.disk in
-    let same : mid ≡ old = c.with_sealed.ensures.disk in
-    let first = 64 * c.args.place in
-    let end = c.min-end.result in
-    let starts = c.in-Ok.starts.items in
-    let made = c.in-Ok-with_sealed.made.items in
-    let page = c.in-Ok-final_page.page in
-    let uses_are : c.deref.result.now ≡ uses = c.deref.ensures.value in
-    let sums_are : AreSums has (length starts) (between first end uses) made =
-    subst (λ (us : List (List (ℕ × g.row.R-Elem.Denot))). AreSums has (length starts) (between first end us) made) uses_are c.in-Ok-with_sealed.ensures.count in
-    let size : length (between first end uses) ≡ end - first = between_length first end uses (omega (arith, c.min-end.ensures, c.len.ensures)) in
-    let short : length made ≡ end - first = omega (arith, size, sums_are.uses_count, sums_are.starts_count) in
-    let count : length made ≡ min 64 (length finals - 64 * place) = omega (arith, short, c.min-end.ensures, c.len.ensures, c.requires.uses) in
-    let in_ring : AllIns has made = λ i l. sums_are.starts_in_ring i (omega (arith, l, sums_are.starts_count)) in
-    let page_is : IsPageOfFinals has g.R.Ring.zero value place finals made page =
-    subst (λ (cs : List (List (ℕ × g.row.R-Elem.Denot))). IsPageOfFinals has g.R.Ring.zero value place finals cs page) c.deref-2.ensures.value
-    c.in-Ok-final_page.ensures in
-    let Known : List (List (ℕ × g.row.R-Elem.Denot)) → Trace → Type 0 = λ us t. (pages : List Page) → IsSealed pages t.now.contents → (j : ℕ)
-    → j < length starts
-    → SameRow m (row_at value made j) (λ q. row_at value starts j q + combination (length numbers) (λ i. sealed_combination pages (get_or numbers i 0))
-    (used_at value numbers (get_or (between first end us) j [])) q) in
-    let sums : IfSome old (λ t. (pages : List Page) → IsSealed pages t.now.contents → AreFinalSums m value numbers (64 * place) uses made pages) =
-    told_one (Known uses) (λ t. (pages : List Page) → IsSealed pages t.now.contents → AreFinalSums m value numbers (64 * place) uses made pages) old
-    (λ t known pages sealed. final_sums m value numbers first end uses starts made pages c.in-Ok.ensures.zero (omega (arith, short))
-    (λ j l. known pages sealed j (omega (arith, l, sums_are.starts_count))))
-    (subst (λ us. IfSome old (Known us)) uses_are c.in-Ok-with_sealed.ensures.told) in
+    let same : mid ≡ old = c.made_final.ensures.disk in
+    let page = c.in-Ok.page in
+    let have = finals_have m value columns course blocks k c.args.sealed.now.numbers.items c.args.sealed.now.rows.items c.args.finals.now.rows.rows
+    c.args.finals.now.uses.items old (omega arith) are in
     let next : IfSome mid (λ t. slice_get course.pages k ≡ Some page) = subst (λ o. IfSome o (λ t. slice_get course.pages k ≡ Some page)) (sym same)
-    (next_final_told m g.R.Ring.zero has value (g.met.R.Ring.has_zero ring) (g.met.R.Ring.value_zero ring) (g.met.R.Ring.value_injective ring)
-    (g.met.R.Ring.value_below ring) course columns blocks k numbers rows finals uses old all are c.requires.rows k (omega arith) place
-    c.requires.within made page in_ring count page_is old are.holds sums) in
+    (c.in-Ok.ensures.page columns course all have) in
     let held : Holds course.pages k mid = subst (Holds course.pages k) (sym same) are.holds in
-    subst (λ n. OnOk c.seal.result (Holds course.pages n now)) (let e : suc k ≡ 2 + blocks + place = omega arith in e)
+    subst (λ n. OnOk c.seal.result (Holds course.pages n now)) (let e : suc k ≡ 2 + blocks + c.args.place = omega arith in e)
     (holds_where_done course.pages k page mid now c.seal.result c.seal.ensures.keeps held c.seal.ensures.holds next)
 
 pub returns-clause-fault : goal.returns-clause-fault
 returns-clause-fault g c = λ columns course all are.
     let ring = c.args.ring.now in
     let m = g.R.Ring.modulus ring in
-    let has = g.R.Ring.has ring in
     let value = g.R.Ring.value ring in
     let blocks = c.args.blocks in
-    let place = c.args.place in
     let k = 1 + c.args.blocks + c.args.place in
     let old = g.D.Disk.trace c.args.disk.now in
-    let numbers = c.args.sealed.now.numbers.items in
-    let rows = c.args.sealed.now.rows.items in
-    let finals = c.args.finals.now.rows.rows in
-    let uses = c.args.finals.now.uses.items in
-    let mid = g.D.Disk.trace c.with_sealed.new.disk in
+    let mid = g.D.Disk.trace c.made_final.new.disk in
     let now = g.D.Disk.trace c.seal.new.disk in
-    let same : mid ≡ old = c.with_sealed.ensures.disk in
-    let first = 64 * c.args.place in
-    let end = c.min-end.result in
-    let starts = c.in-Ok.starts.items in
-    let made = c.in-Ok-with_sealed.made.items in
-    let page = c.in-Ok-final_page.page in
-    let uses_are : c.deref.result.now ≡ uses = c.deref.ensures.value in
-    let sums_are : AreSums has (length starts) (between first end uses) made =
-    subst (λ (us : List (List (ℕ × g.row.R-Elem.Denot))). AreSums has (length starts) (between first end us) made) uses_are c.in-Ok-with_sealed.ensures.count in
-    let size : length (between first end uses) ≡ end - first = between_length first end uses (omega (arith, c.min-end.ensures, c.len.ensures)) in
-    let short : length made ≡ end - first = omega (arith, size, sums_are.uses_count, sums_are.starts_count) in
-    let count : length made ≡ min 64 (length finals - 64 * place) = omega (arith, short, c.min-end.ensures, c.len.ensures, c.requires.uses) in
-    let in_ring : AllIns has made = λ i l. sums_are.starts_in_ring i (omega (arith, l, sums_are.starts_count)) in
-    let page_is : IsPageOfFinals has g.R.Ring.zero value place finals made page =
-    subst (λ (cs : List (List (ℕ × g.row.R-Elem.Denot))). IsPageOfFinals has g.R.Ring.zero value place finals cs page) c.deref-2.ensures.value
-    c.in-Ok-final_page.ensures in
-    let Known : List (List (ℕ × g.row.R-Elem.Denot)) → Trace → Type 0 = λ us t. (pages : List Page) → IsSealed pages t.now.contents → (j : ℕ)
-    → j < length starts
-    → SameRow m (row_at value made j) (λ q. row_at value starts j q + combination (length numbers) (λ i. sealed_combination pages (get_or numbers i 0))
-    (used_at value numbers (get_or (between first end us) j [])) q) in
-    let sums : IfSome old (λ t. (pages : List Page) → IsSealed pages t.now.contents → AreFinalSums m value numbers (64 * place) uses made pages) =
-    told_one (Known uses) (λ t. (pages : List Page) → IsSealed pages t.now.contents → AreFinalSums m value numbers (64 * place) uses made pages) old
-    (λ t known pages sealed. final_sums m value numbers first end uses starts made pages c.in-Ok.ensures.zero (omega (arith, short))
-    (λ j l. known pages sealed j (omega (arith, l, sums_are.starts_count))))
-    (subst (λ us. IfSome old (Known us)) uses_are c.in-Ok-with_sealed.ensures.told) in
+    let same : mid ≡ old = c.made_final.ensures.disk in
+    let page = c.in-Ok.page in
+    let have = finals_have m value columns course blocks k c.args.sealed.now.numbers.items c.args.sealed.now.rows.items c.args.finals.now.rows.rows
+    c.args.finals.now.uses.items old (omega arith) are in
     let next : IfSome mid (λ t. slice_get course.pages k ≡ Some page) = subst (λ o. IfSome o (λ t. slice_get course.pages k ≡ Some page)) (sym same)
-    (next_final_told m g.R.Ring.zero has value (g.met.R.Ring.has_zero ring) (g.met.R.Ring.value_zero ring) (g.met.R.Ring.value_injective ring)
-    (g.met.R.Ring.value_below ring) course columns blocks k numbers rows finals uses old all are c.requires.rows k (omega arith) place
-    c.requires.within made page in_ring count page_is old are.holds sums) in
-    let held : Holds course.pages k mid = subst (Holds course.pages k) (sym same) are.holds in
-    cause_where_failed (Rose (g.D.Disk.faults c.with_sealed.new.disk) (g.D.Disk.faults c.seal.new.disk)) (¬ (IsPage page))
+    (c.in-Ok.ensures.page columns course all have) in
+    cause_where_failed (Rose (g.D.Disk.faults c.made_final.new.disk) (g.D.Disk.faults c.seal.new.disk)) (¬ (IsPage page))
     (Rose (g.D.Disk.faults c.args.disk.now) (g.D.Disk.faults c.seal.new.disk)) (old ≡ None) c.seal.result
-    (λ r. omega (arith, r, c.with_sealed.ensures.faults))
-    (λ isnt. sym same ∙ no_page_untold course.pages k page mid (all_pages m g.R.Ring.zero has value (g.met.R.Ring.has_zero ring)
-    (g.met.R.Ring.value_zero ring) (g.met.R.Ring.value_injective ring)
-    (g.met.R.Ring.value_below ring) course columns blocks k numbers rows finals uses old all are c.requires.rows) next isnt)
+    (λ r. omega (arith, r, c.made_final.ensures.faults))
+    (λ isnt. sym same ∙ no_page_untold course.pages k page mid (all_pages m g.R.Ring.zero (g.R.Ring.has ring) value (g.met.R.Ring.has_zero ring)
+    (g.met.R.Ring.value_zero ring) (g.met.R.Ring.value_injective ring) (g.met.R.Ring.value_below ring) course columns blocks
+    c.args.sealed.now.numbers.items c.args.sealed.now.rows.items c.args.finals.now.rows.rows c.args.finals.now.uses.items old all have c.requires.rows)
+    next isnt)
     c.seal.ensures.fault

@@ -1,5 +1,5 @@
 use Rattle.std.proofs.Common.{◌≡◌, ◌+◌, ◌≤◌}
-use Rattle.std.specs.Prelude.{IfSome}
+use Rattle.std.specs.Prelude.{IfSome, None}
 use Rattle.column_order.specs.Columns.{ColumnList}
 use Rattle.page_codec.specs.Places.{block_count}
 use Rattle.page_file.specs.Notes.{Suits}
@@ -12,12 +12,15 @@ invariant-loop-place g l = record {
   ready : IsReadyAt (1 + l.blocks + l.place) l.file;
   suits : IfSome (g.D.Disk.trace l.disk) (λ t. Suits l.file t.now.contents);
   keeps : (columns : ColumnList) (course : Course) → l.blocks ≡ block_count (count_of columns)
-      → AreFinals (g.R.Ring.modulus l.ring) (g.R.Ring.value l.ring) columns course (1 + l.blocks) l.sealed.numbers.items l.sealed.rows.items l.finals.rows.rows
-      l.finals.uses.items (g.D.Disk.trace l.fn.disk) → Keeps course.pages (1 + l.blocks) (g.D.Disk.trace l.fn.disk) (g.D.Disk.trace l.disk);
+      → AreFinals (g.R.Ring.modulus l.ring) (g.R.Ring.value l.ring) columns course (1 + l.blocks + l.first) l.sealed.numbers.items l.sealed.rows.items
+      l.finals.rows.rows
+      l.finals.uses.items (g.D.Disk.trace l.fn.disk) → Keeps course.pages (1 + l.blocks + l.first) (g.D.Disk.trace l.fn.disk) (g.D.Disk.trace l.disk);
   are : (columns : ColumnList) (course : Course) → l.blocks ≡ block_count (count_of columns)
-      → AreFinals (g.R.Ring.modulus l.ring) (g.R.Ring.value l.ring) columns course (1 + l.blocks) l.sealed.numbers.items l.sealed.rows.items l.finals.rows.rows
+      → AreFinals (g.R.Ring.modulus l.ring) (g.R.Ring.value l.ring) columns course (1 + l.blocks + l.first) l.sealed.numbers.items l.sealed.rows.items
+      l.finals.rows.rows
       l.finals.uses.items (g.D.Disk.trace l.fn.disk)
       → AreFinals (g.R.Ring.modulus l.ring) (g.R.Ring.value l.ring) columns course (1 + l.blocks + l.place) l.sealed.numbers.items l.sealed.rows.items
       l.finals.rows.rows l.finals.uses.items (g.D.Disk.trace l.disk);
+  untold : g.D.Disk.trace l.fn.disk ≡ None → g.D.Disk.trace l.disk ≡ None;
   faults : g.D.Disk.faults l.fn.disk ≤ g.D.Disk.faults l.disk;
 }

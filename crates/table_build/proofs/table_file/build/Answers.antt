@@ -4,6 +4,7 @@ use Rattle.outside_io.specs.Causes.{Rose}
 use Rattle.outside_io.specs.Moments.{IsImage}
 use Rattle.file_model.specs.Prefixes.{HasPages}
 use Rattle.table_build.specs.Answers.{figures_of}
+use Rattle.table_build.specs.Faults.{IsTableFault}
 use Rattle.table_build.proofs.Keepings.{stays_same}
 use Rattle.table_build.proofs.TableFaults.{told_word, no_word}
 use Rattle.table_build.proofs.BuildEndings.{empty_there, refused_ends, build_moments, build_ends, build_left, broken_ends, broken_left, broken_told, broken_rose, rose_since}
@@ -12,8 +13,8 @@ use Rattle.table_build.proofs.table_file.build.Goals as goal
 pub returns-in-Err-table_of-clause-ends : goal.returns-in-Err-table_of-clause-ends
 returns-in-Err-table_of-clause-ends g c =
     let told = g.D.Disk.trace c.args.disk.now in
-    refused_ends c.args.params.now told (empty_there told c.in-Ok.len (omega (arith, c.if-len-gt0.false)) c.in-Ok.ensures.length) c.in-Err-table_of.fault
-    c.in-Err-table_of.ensures.fault
+    refused_ends c.args.params.now told (empty_there told c.in-Ok.len (omega (arith, c.if-len-gt0.false)) c.in-Ok.ensures.length) c.table_fault.result
+    (subst (IsTableFault c.args.params.now) (sym c.table_fault.ensures) c.in-Err-table_of.ensures.fault)
 
 pub returns-in-Err-table_of-clause-moments : goal.returns-in-Err-table_of-clause-moments
 returns-in-Err-table_of-clause-moments g c = λ k. stays_same (HasPages c.args.params.now k) (g.D.Disk.trace c.args.disk.now)
@@ -140,8 +141,12 @@ returns-in-Err-build_table-clause-disk_fault g c = λ e.
 
 pub returns-in-Err-table_of-clause-word : goal.returns-in-Err-table_of-clause-word
 returns-in-Err-table_of-clause-word g c =
-    λ value word e. told_word c.args.params.now c.in-Err-table_of.fault c.in-Err-table_of.ensures.fault value word cc
+    λ value word e. told_word c.args.params.now c.table_fault.result
+    (subst (IsTableFault c.args.params.now) (sym c.table_fault.ensures) c.in-Err-table_of.ensures.fault) value word cc
 
 pub returns-in-Err-build_table-clause-word : goal.returns-in-Err-build_table-clause-word
 returns-in-Err-build_table-clause-word g c =
     λ value word e. absurd (no_word c.in-Err-build_table.fault value word (sym c.build_fault.ensures ∙ cc))
+
+pub returns-in-Ok-build_table-clause-image : goal.returns-in-Ok-build_table-clause-image
+returns-in-Ok-build_table-clause-image g c = λ ok. subst (λ x. IfSome x (λ t. IsImage t.now t.now.contents)) c.len.ensures.same c.len.ensures.image

@@ -1,12 +1,9 @@
-use Rattle.std.proofs.Common.{Err, ap, sym, subst}
-use Rattle.table_build.specs.Faults.{IsTableFault}
+use Rattle.std.proofs.Common.{Err, ap}
 use Rattle.table_build.proofs.TableFaults.{table_cause}
 use Rattle.table_build.proofs.table_file.table_of.Goals as goal
 
 pub returns-in-Err-new-clause-fault : goal.returns-in-Err-new-clause-fault
 returns-in-Err-new-clause-fault g c =
-    let params = c.args.params.now in
     let fault = c.in-Err-new in
-    subst (IsTableFault params) (sym c.table_fault.ensures)
-    (table_cause params (g.R.Ring.modulus c.args.ring) c.in-Ok.columns c.requires.modulus c.in-Ok.ensures fault.fault
-    (λ value word e. (fault.ensures.no_inverse value word).0 (ap Err e)))
+    table_cause c.args.params.now (g.R.Ring.modulus c.args.ring) c.in-Ok.columns c.requires.modulus c.in-Ok.ensures fault.fault
+    (λ value word e. (fault.ensures.no_inverse value word).0 (ap Err e))
