@@ -1,0 +1,4 @@
+pub mod OldFiles
+pub mod Migrations
+pub mod Answers
+pub mod Inner
