@@ -7,7 +7,10 @@ pub mod OneShow
 pub mod OneFileWork
 pub mod OneBuild
 pub mod OneWork
+pub mod OneCopy
 pub mod SomeWork
 pub mod Outcomes
 pub mod ReduceTells
 pub mod RewriteTells
+pub mod BuildTells
+pub mod CopyTells

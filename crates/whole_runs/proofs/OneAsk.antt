@@ -13,8 +13,8 @@ use Rattle.page_codec.specs.Tests.{Names, AllName, FailsFirst, AreNamed, FailsTe
 use Rattle.page_codec.proofs.Naming.{named_or_fails}
 use Rattle.page_codec.proofs.Exclusive.{not_both}
 use Rattle.page_codec.proofs.SameParams.{same_parts}
-use Rattle.whole_runs.specs.CommandLine.{Asked, Request, IsTested, asked_reduce, asked_build, asked_sample, AsksFor, AsksForIt, request_of, Asks}
-use Rattle.whole_runs.specs.CommandLine.Request.{ForDual, ForList, ForReduce, ForSample, ForProbe, ForShow, ForCheck, ForRewrite, ForRational, ForBuild}
+use Rattle.whole_runs.specs.CommandLine.{Asked, Request, IsTested, asked_reduce, asked_build, asked_resume, asked_sample, AsksFor, AsksForIt, request_of, Asks}
+use Rattle.whole_runs.specs.CommandLine.Request.{ForDual, ForList, ForReduce, ForSample, ForProbe, ForShow, ForCheck, ForRewrite, ForRational, ForBuild, ForResume, ForMigrate}
 
 ends_from : (u : List Letter) → IsTrue (is_admissible u) → ends_with_y u ≡ true
 ends_from u e = second (begins_with_x u) (ends_with_y u) e
@@ -176,12 +176,14 @@ asked_once (ForDual m) a b x y = x ∙ sym y
 asked_once (ForList w d) a b x y = x ∙ sym y
 asked_once (ForReduce w d m order text) a b x y = x.2 ∙ ap asked_reduce (one_test w d m order text x.0 y.0 x.1 y.1) ∙ sym y.2
 asked_once (ForBuild w d m order text) a b x y = x.2 ∙ ap asked_build (one_test w d m order text x.0 y.0 x.1 y.1) ∙ sym y.2
+asked_once (ForResume w d m order text) a b x y = x.2 ∙ ap asked_resume (one_test w d m order text x.0 y.0 x.1 y.1) ∙ sym y.2
 asked_once (ForSample w d m seed count) a b x y = x.2 ∙ ap (asked_sample seed count) (one_test w d m (codes "lex") None x.0 y.0 x.1 y.1) ∙ sym y.2
 asked_once (ForProbe n m) a b x y = x ∙ sym y
 asked_once ForShow a b x y = x ∙ sym y
 asked_once ForCheck a b x y = x ∙ sym y
 asked_once ForRewrite a b x y = x ∙ sym y
 asked_once ForRational a b x y = x ∙ sym y
+asked_once ForMigrate a b x y = x ∙ sym y
 
 asked_at_most_once : (request : Option Request) (a b : Asked) → AsksForIt request a → AsksForIt request b → a ≡ b
 asked_at_most_once None a b x y = x ∙ sym y

@@ -1,5 +1,5 @@
 -- What is asked for is one work.
-use Rattle.std.specs.Prelude.{◌≡◌, ℕ, List, length, map, Option, Some, None, Ok, Err}
+use Rattle.std.specs.Prelude.{◌≡◌, ℕ, List, [], ◌∷◌, length, map, Option, Some, None, Ok, Err}
 use Rattle.std.proofs.Common.{sym, ◌∙◌, subst}
 use Rattle.zeta_model.specs.WordLists.{admissible_within}
 use Rattle.column_order.specs.Columns.{ColumnList}
@@ -13,7 +13,7 @@ use Rattle.table_model.proofs.FirstFaults.{not_invertible_unique, not_invertible
 use Rattle.line_samples.specs.Samples.{sample_lines}
 use Rattle.table_rewrite.proofs.LineReplies.{one_reply}
 use Rattle.fraction_replies.proofs.LineFractions.{one_reply as one_fraction_reply}
-use Rattle.whole_runs.specs.declared.command.Command.TheVariants.{Dual, List as ListOf, Reduce, Sample, Probe, Show, Check, Rewrite, Rational, Build}
+use Rattle.whole_runs.specs.declared.command.Command.TheVariants.{Dual, List as ListOf, Reduce, Sample, Probe, Show, Check, Rewrite, Rational, Build, Resume, Migrate}
 use Rattle.whole_runs.specs.declared.command.WordsFault.TheVariants.{Usage, Param, Count, Terms}
 use Rattle.whole_runs.specs.declared.status.Status.TheVariants as status
 use Rattle.whole_runs.specs.CommandLine.{Asked}
@@ -26,7 +26,7 @@ use Rattle.file_model.proofs.ParamColumns.{same_columns}
 use Rattle.whole_runs.proofs.Probes.{one_probe}
 use Rattle.whole_runs.proofs.OneShow.{one_show}
 use Rattle.whole_runs.proofs.OneFileWork.{one_over_file}
-use Rattle.whole_runs.proofs.OneBuild.{one_build}
+use Rattle.whole_runs.proofs.OneBuild.{one_build, one_resume}
 use Rattle.whole_runs.specs.FileWorks.{CompletesBy}
 
 module _ (m : ℕ) (columns : ColumnList) where
@@ -109,3 +109,8 @@ one_work (Ok Rational) (Some bytes) v w x y =
 one_work (Ok Rational) None v w x y = absurd x
 one_work (Ok (Build params)) (Some bytes) v w x y = one_build params bytes v w x y
 one_work (Ok (Build params)) None v w x y = absurd x
+one_work (Ok (Resume params)) (Some bytes) v w x y = one_resume params bytes v w x y
+one_work (Ok (Resume params)) None v w x y = absurd x
+one_work (Ok Migrate) (Some []) v w x y = absurd x
+one_work (Ok Migrate) (Some (byte ∷ bytes)) v w x y = x ∙ sym y
+one_work (Ok Migrate) None v w x y = absurd x

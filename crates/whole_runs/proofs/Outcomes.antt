@@ -8,11 +8,12 @@ use Rattle.whole_runs.specs.declared.status.Status.{Status}
 use Rattle.whole_runs.specs.Statuses.{BreaksOff}
 use Rattle.whole_runs.specs.CommandLine.{Asked, Asks}
 use Rattle.whole_runs.specs.Works.{Work, output_of}
-use Rattle.whole_runs.specs.Wanted.{IsWork}
+use Rattle.whole_runs.specs.Wanted.{IsWork, IsWorkOver}
 use Rattle.whole_runs.specs.Works.Work.{Writes}
 use Rattle.whole_runs.specs.Outcomes.{Has, Outcome, AnswersSeen}
 use Rattle.whole_runs.proofs.OneAsk.{one_ask}
 use Rattle.whole_runs.proofs.OneWork.{one_work}
+use Rattle.whole_runs.proofs.OneCopy.{one_work_over, work_over}
 
 -- what holds of the work holds of each
 pub each_work : (asked : Asked) (contents : Option (List ℕ)) (work : Work) (P : Work → Type 0) → IsWork asked contents work → P work
@@ -23,14 +24,19 @@ each_work asked contents work P is holds v other = subst P (one_work asked conte
 pub each_asked : (words : List (List ℕ)) (a : Asked) (P : Asked → Type 0) → Asks words a → P a → (b : Asked) → Asks words b → P b
 each_asked words a P asks holds b other = subst P (one_ask words a b asks other) holds
 
-pub outcome_of : (asked : Asked) (contents : Option (List ℕ)) (work : Work) (left taken taken_new : Option (List ℕ)) (result : Status)
-    → IsWork asked contents work → Has work left taken taken_new result → Outcome asked contents left taken taken_new result
-outcome_of asked contents work left taken taken_new result is run = record {
+pub outcome_over : (asked : Asked) (contents : Option (List ℕ)) (work : Work) (left taken taken_new : Option (List ℕ)) (result : Status)
+    → IsWorkOver asked contents left work → Has work left taken taken_new result → Outcome asked contents left taken taken_new result
+outcome_over asked contents work left taken taken_new result is run = record {
   input = run.input;
   told = run.told;
-  front = each_work asked contents work (λ v. AppendsFront taken taken_new (output_of v run.input)) is run.front;
+  front = λ v other. subst (λ u. AppendsFront taken taken_new (output_of u run.input)) (one_work_over asked contents left work v is other) run.front;
   whole = λ told. elim run.whole [ inl broken ↦ inl broken | inr (all, end) ↦ inr (work, is, all, end) ];
 }
+
+pub outcome_of : (asked : Asked) (contents : Option (List ℕ)) (work : Work) (left taken taken_new : Option (List ℕ)) (result : Status)
+    → IsWork asked contents work → Has work left taken taken_new result → Outcome asked contents left taken taken_new result
+outcome_of asked contents work left taken taken_new result is run =
+    outcome_over asked contents work left taken taken_new result (work_over asked contents left work is) run
 
 -- some bytes that a source tells, where it tells
 some_input : (left : Option (List ℕ)) → (input : List ℕ) × Tells left input

@@ -44,7 +44,7 @@ module _ (params : Params) (fits : IsParams params) (contents left taken taken_n
 
 pub reduce_tells : (params : Params) (contents left taken taken_new : Option (List ℕ)) → IsParams params
     → Outcome (Ok (Reduce params)) contents left taken taken_new status.Done → RepliesTell params left taken taken_new
-reduce_tells params contents left taken taken_new fits o = elim (o.whole (λ names. absurd names)) [
+reduce_tells params contents left taken taken_new fits o = elim (o.whole (λ names. absurd names, λ pages. absurd cc)) [
   | inl b ↦ absurd (not_broken_off b)
   | inr (work, is, wrote, end) ↦
       let over : IsOverTable params (RepliesBy params.modulus) work = is in

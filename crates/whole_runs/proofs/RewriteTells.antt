@@ -169,7 +169,7 @@ module _ (bytes : List ℕ) (left taken taken_new : Option (List ℕ)) (input : 
 
 pub check_tells : (bytes : List ℕ) (left taken taken_new : Option (List ℕ)) → Outcome (Ok Check) (Some bytes) left taken taken_new status.Done
     → IsWholeFile bytes
-check_tells bytes left taken taken_new o = elim (o.whole (λ names. refl)) [
+check_tells bytes left taken taken_new o = elim (o.whole (λ names. refl, λ pages. absurd cc)) [
   | inl b ↦ absurd (not_broken_off b)
   | inr (work, is, wrote, end) ↦
       let d : IsDoneWith bytes CompletesBy work = done_with bytes CompletesBy work o.input end is in
@@ -178,7 +178,7 @@ check_tells bytes left taken taken_new o = elim (o.whole (λ names. refl)) [
 
 pub rewrite_tells : (bytes : List ℕ) (left taken taken_new : Option (List ℕ)) → Outcome (Ok Rewrite) (Some bytes) left taken taken_new status.Done
     → FileTells bytes left taken taken_new
-rewrite_tells bytes left taken taken_new o = elim (o.whole (λ names. refl)) [
+rewrite_tells bytes left taken taken_new o = elim (o.whole (λ names. refl, λ pages. absurd cc)) [
   | inl b ↦ absurd (not_broken_off b)
   | inr (work, is, wrote, end) ↦
       by_replies bytes left taken taken_new o.input o.told work (done_with bytes (λ params. RepliesBy params.modulus) work o.input end is) wrote
@@ -186,7 +186,7 @@ rewrite_tells bytes left taken taken_new o = elim (o.whole (λ names. refl)) [
 
 pub rational_tells : (bytes : List ℕ) (left taken taken_new : Option (List ℕ)) → Outcome (Ok Rational) (Some bytes) left taken taken_new status.Done
     → FileTellsByFractions bytes left taken taken_new
-rational_tells bytes left taken taken_new o = elim (o.whole (λ names. refl)) [
+rational_tells bytes left taken taken_new o = elim (o.whole (λ names. refl, λ pages. absurd cc)) [
   | inl b ↦ absurd (not_broken_off b)
   | inr (work, is, wrote, end) ↦
       by_fractions bytes left taken taken_new o.input o.told work (done_with bytes (λ params. FractionsBy params.modulus) work o.input end is) wrote

@@ -15,7 +15,7 @@ use Rattle.table_model.proofs.ForwardRowLaws.{unbroken_has_rows}
 use Rattle.table_model.proofs.FindingFaults.{converts_or_fault, unbroken_or_breaks}
 use Rattle.line_samples.specs.Samples.{sample_lines}
 use Rattle.table_rewrite.proofs.LineReplies.{some_reply}
-use Rattle.whole_runs.specs.declared.command.Command.TheVariants.{Dual, List as ListOf, Reduce, Sample, Probe, Show, Check, Rewrite, Rational, Build}
+use Rattle.whole_runs.specs.declared.command.Command.TheVariants.{Dual, List as ListOf, Reduce, Sample, Probe, Show, Check, Rewrite, Rational, Build, Resume, Migrate}
 use Rattle.whole_runs.specs.declared.command.WordsFault.TheVariants.{Usage, Param, Count, Terms}
 use Rattle.whole_runs.specs.declared.status.Status.TheVariants as status
 use Rattle.whole_runs.specs.CommandLine.{Asked, IsInRange}
@@ -86,3 +86,5 @@ some_work (Ok Check) contents fits none = absurd (none tt)
 some_work (Ok Rewrite) contents fits none = absurd (none tt)
 some_work (Ok Rational) contents fits none = absurd (none tt)
 some_work (Ok (Build params)) contents fits none = absurd (none tt)
+some_work (Ok (Resume params)) contents fits none = absurd (none tt)
+some_work (Ok Migrate) contents fits none = absurd (none tt)

@@ -9,7 +9,7 @@ use Rattle.page_codec.specs.declared.fault.ParamFault.TheVariants.{Weight, Depth
 use Rattle.page_codec.specs.Bounds.{IsParams}
 use Rattle.page_codec.specs.Tests.{Passes, Refuses}
 use Rattle.whole_runs.specs.declared.command.Command.{Command}
-use Rattle.whole_runs.specs.declared.command.Command.TheVariants.{Dual, List as ListOf, Reduce, Sample, Probe, Show, Check, Rewrite, Rational, Build}
+use Rattle.whole_runs.specs.declared.command.Command.TheVariants.{Dual, List as ListOf, Reduce, Sample, Probe, Show, Check, Rewrite, Rational, Build, Resume, Migrate}
 use Rattle.whole_runs.specs.declared.command.WordsFault.{WordsFault}
 use Rattle.whole_runs.specs.declared.command.WordsFault.TheVariants.{Usage, Param, Count, Terms}
 
@@ -38,6 +38,8 @@ pub data Request : Type 0 where
   ForRewrite : Request
   ForRational : Request
   ForBuild : ℕ → ℕ → ℕ → List ℕ → Option (List ℕ) → Request
+  ForResume : ℕ → ℕ → ℕ → List ℕ → Option (List ℕ) → Request
+  ForMigrate : Request
 
 abbrev pub dual_request : Option ℕ → Option Request
 dual_request None = None
@@ -65,6 +67,12 @@ build_request (Some w) None m order preferred = None
 build_request (Some w) (Some d) None order preferred = None
 build_request (Some w) (Some d) (Some m) order preferred = Some (ForBuild w d m order preferred)
 
+abbrev pub resume_request : Option ℕ → Option ℕ → Option ℕ → List ℕ → Option (List ℕ) → Option Request
+resume_request None d m order preferred = None
+resume_request (Some w) None m order preferred = None
+resume_request (Some w) (Some d) None order preferred = None
+resume_request (Some w) (Some d) (Some m) order preferred = Some (ForResume w d m order preferred)
+
 abbrev pub sample_request : Option ℕ → Option ℕ → Option ℕ → Option ℕ → Option ℕ → Option Request
 sample_request None d m seed count = None
 sample_request (Some w) None m seed count = None
@@ -73,29 +81,33 @@ sample_request (Some w) (Some d) (Some m) None count = None
 sample_request (Some w) (Some d) (Some m) (Some seed) None = None
 sample_request (Some w) (Some d) (Some m) (Some seed) (Some count) = Some (ForSample w d m seed count)
 
--- `dual M`, and `show FILE`, `check FILE`, `rewrite FILE` and `rational FILE` with any word for FILE
+-- `dual M`, and `show FILE`, `check FILE`, `rewrite FILE`, `rational FILE` and `migrate FILE` with any word for FILE
 abbrev pub one_word : List ℕ → List ℕ → Option Request
 one_word name word =
     if bytes_eq name (codes "dual") then dual_request (number_word word)
     else if bytes_eq name (codes "show") then Some ForShow
     else if bytes_eq name (codes "check") then Some ForCheck
     else if bytes_eq name (codes "rewrite") then Some ForRewrite
-    else if bytes_eq name (codes "rational") then Some ForRational else None
+    else if bytes_eq name (codes "rational") then Some ForRational
+    else if bytes_eq name (codes "migrate") then Some ForMigrate else None
 
 -- `list W D` and `probe N M`
 abbrev pub two_numbers : List ℕ → Option ℕ → Option ℕ → Option Request
 two_numbers name a b = if bytes_eq name (codes "list") then list_request a b else if bytes_eq name (codes "probe") then probe_request a b else None
 
--- `reduce W D M ORDER PREF`, `build FILE W D M ORDER` with any word for FILE, and `sample W D M SEED COUNT`
+-- `reduce W D M ORDER PREF`, `build FILE W D M ORDER` and `resume FILE W D M ORDER` with any word for FILE, and `sample W D M SEED COUNT`
 abbrev pub five_words : List ℕ → List ℕ → Option ℕ → Option ℕ → List ℕ → List ℕ → Option Request
 five_words name first second third fourth fifth =
     if bytes_eq name (codes "reduce") then reduce_request (number_word first) second third fourth (Some fifth)
     else if bytes_eq name (codes "build") then build_request second third (number_word fourth) fifth None
+    else if bytes_eq name (codes "resume") then resume_request second third (number_word fourth) fifth None
     else if bytes_eq name (codes "sample") then sample_request (number_word first) second third (number_word fourth) (number_word fifth) else None
 
--- `build FILE W D M ORDER PREF` with any word for FILE
+-- `build FILE W D M ORDER PREF` and `resume FILE W D M ORDER PREF` with any word for FILE
 abbrev pub six_words : List ℕ → Option ℕ → Option ℕ → Option ℕ → List ℕ → List ℕ → Option Request
-six_words name w d m order preferred = if bytes_eq name (codes "build") then build_request w d m order (Some preferred) else None
+six_words name w d m order preferred =
+    if bytes_eq name (codes "build") then build_request w d m order (Some preferred)
+    else if bytes_eq name (codes "resume") then resume_request w d m order (Some preferred) else None
 
 -- the words of the table of commands; all others fit none
 abbrev pub request_of : List (List ℕ) → Option Request
@@ -140,6 +152,10 @@ abbrev pub asked_build : Result Params ParamFault → Asked
 asked_build (Ok params) = Ok (Build params)
 asked_build (Err fault) = Err (Param fault)
 
+abbrev pub asked_resume : Result Params ParamFault → Asked
+asked_resume (Ok params) = Ok (Resume params)
+asked_resume (Err fault) = Err (Param fault)
+
 -- the count is tested last
 abbrev pub asked_sample : ℕ → ℕ → Result Params ParamFault → Asked
 asked_sample seed count (Ok params) = if nat_le count 100000 then Ok (Sample params seed count) else Err (Count count)
@@ -151,6 +167,7 @@ AsksFor (ForDual m) asked = asked ≡ asked_dual m
 AsksFor (ForList w d) asked = asked ≡ asked_listing w d
 AsksFor (ForReduce w d m order preferred) asked = (tested : Result Params ParamFault) × IsTested w d m order preferred tested × (asked ≡ asked_reduce tested)
 AsksFor (ForBuild w d m order preferred) asked = (tested : Result Params ParamFault) × IsTested w d m order preferred tested × (asked ≡ asked_build tested)
+AsksFor (ForResume w d m order preferred) asked = (tested : Result Params ParamFault) × IsTested w d m order preferred tested × (asked ≡ asked_resume tested)
 AsksFor (ForSample w d m seed count) asked =
     (tested : Result Params ParamFault) × IsTested w d m (codes "lex") None tested × (asked ≡ asked_sample seed count tested)
 AsksFor (ForProbe n m) asked = asked ≡ asked_probe n m
@@ -158,6 +175,7 @@ AsksFor ForShow asked = asked ≡ Ok Show
 AsksFor ForCheck asked = asked ≡ Ok Check
 AsksFor ForRewrite asked = asked ≡ Ok Rewrite
 AsksFor ForRational asked = asked ≡ Ok Rational
+AsksFor ForMigrate asked = asked ≡ Ok Migrate
 
 abbrev pub AsksForIt : Option Request → Asked → Type 0
 AsksForIt None asked = asked ≡ Err Usage
@@ -179,3 +197,5 @@ IsInRange Check = Unit {0}
 IsInRange Rewrite = Unit {0}
 IsInRange Rational = Unit {0}
 IsInRange (Build params) = IsParams params
+IsInRange (Resume params) = IsParams params
+IsInRange Migrate = Unit {0}

@@ -81,6 +81,10 @@ complete_line params relations rows =
 abbrev pub other_line : Params → List ℕ
 other_line params = codes "not a table: other " ++ line (params_text params)
 
+-- the header, and how many pages are sealed
+abbrev pub migrated_line : Params → ℕ → List ℕ
+migrated_line params pages = codes "migrated: " ++ (params_text params ++ (codes ", pages " ++ line (decimal pages)))
+
 -- what was done, how many relations are listed, how many rows there are, how many relations were offered, and how many pages are sealed
 abbrev pub figures_line : List ℕ → Figures → List ℕ
 figures_line done figures =

@@ -11,7 +11,7 @@ use Rattle.table_model.specs.Faults.{IsFirstWithout, Verdict}
 use Rattle.table_model.specs.Faults.Verdict.{Whole, NoInverse, BadRow, NotReduced, Missing}
 use Rattle.file_model.specs.FinalRows.{finals_of, final_row, final_lead, IsFound, EndsDone}
 use Rattle.file_model.specs.TableOf.{IsTableOf}
-use Rattle.file_model.specs.Builds.{FitsAt, FitsOwn, Answer, BuildEnds}
+use Rattle.file_model.specs.Builds.{FitsAt, FitsOwn, Answer, BuildEnds, ResumeEnds}
 use Rattle.file_model.specs.Builds.Answer.{Exists, Foreign, BadPage, Other, Misfit, NoInverseWord, NotForward, NoInverseRelation, DiffersAt, Built}
 use Rattle.whole_runs.specs.declared.status.Status.TheVariants as status
 use Rattle.whole_runs.specs.FileTexts.{foreign_line, unreadable_line, misplaced_line, unfinished_line, bad_row_line, not_reduced_line, missing_line, complete_line, table_lines}
@@ -82,3 +82,9 @@ pub record IsBuild (params : Params) (bytes : List ℕ) (work : Work) : Type 0 w
   pub answer : Answer
   pub ends : BuildEnds params bytes answer
   pub told : work ≡ told_work (codes "built") answer
+
+-- what is said of a file with which a stopped build of the table goes on, whatever stands there
+pub record IsResume (params : Params) (bytes : List ℕ) (work : Work) : Type 0 where
+  pub answer : Answer
+  pub ends : ResumeEnds params bytes answer
+  pub told : work ≡ told_work (codes "resumed") answer

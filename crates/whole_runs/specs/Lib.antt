@@ -4,5 +4,6 @@ pub mod Texts
 pub mod FileTexts
 pub mod Works
 pub mod FileWorks
+pub mod Copies
 pub mod Wanted
 pub mod Outcomes

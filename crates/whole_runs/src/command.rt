@@ -43,6 +43,12 @@ pub enum Command {
     Build {
         params: Params,
     },
+    /// To go on with a build of the table of the parameters that was stopped, from what stands in the file, and to print one line.
+    Resume {
+        params: Params,
+    },
+    /// To copy a version 1 file from the source into a file where nothing stands, and to print one line.
+    Migrate,
 }
 
 /// Why the words ask for nothing.

@@ -2,12 +2,12 @@
 ghost use Rattle.std.specs.Prelude.{◌≡◌, ◌==◌, Option, None, map, string_bytes, slice_index, codes, bytes_eq, if◌then◌else◌, IfOk};
 ghost use Rattle.std.specs.Option.{option_map};
 ghost use Rattle.whole_runs.specs.CommandLine.{Asks, AsksForIt, IsInRange, number_word};
-ghost use Rattle.whole_runs.specs.CommandLine.{dual_request, list_request, probe_request, reduce_request, sample_request, build_request};
+ghost use Rattle.whole_runs.specs.CommandLine.{dual_request, list_request, probe_request, reduce_request, sample_request, build_request, resume_request};
 ghost use Rattle.whole_runs.specs.CommandLine.{one_word, two_numbers, five_words, six_words};
 
 use crate::command::{Command, WordsFault};
 use crate::requests::{
-    asked_build, asked_dual, asked_listing, asked_probe, asked_reduce, asked_sample,
+    asked_build, asked_dual, asked_listing, asked_probe, asked_reduce, asked_resume, asked_sample,
 };
 
 fn begins_with_plus(word: &[u8]) -> bool
@@ -107,6 +107,28 @@ fn build_command(
     asked_build(weight, depth, modulus, order, preferred)
 }
 
+fn resume_command(
+    weight: Option<u64>,
+    depth: Option<u64>,
+    modulus: Option<u64>,
+    order: &str,
+    preferred: Option<&str>,
+) -> Result<Command, WordsFault>
+    ensures asked { AsksForIt (resume_request weight depth modulus order.now (option_map (λ t. t.now) preferred.entry)) result }
+    ensures in_range { IfOk result IsInRange }
+{
+    let Some(weight) = weight else {
+        return Err(WordsFault::Usage);
+    };
+    let Some(depth) = depth else {
+        return Err(WordsFault::Usage);
+    };
+    let Some(modulus) = modulus else {
+        return Err(WordsFault::Usage);
+    };
+    asked_resume(weight, depth, modulus, order, preferred)
+}
+
 fn sample_command(
     weight: Option<u64>,
     depth: Option<u64>,
@@ -153,6 +175,9 @@ fn one_word(name: &str, word: &str) -> Result<Command, WordsFault>
     }
     if name.as_bytes() == b"rational".as_slice() {
         return Ok(Command::Rational);
+    }
+    if name.as_bytes() == b"migrate".as_slice() {
+        return Ok(Command::Migrate);
     }
     Err(WordsFault::Usage)
 }
@@ -203,6 +228,9 @@ fn five_words(
     if name.as_bytes() == b"build".as_slice() {
         return build_command(second, third, number_word(fourth), fifth, None);
     }
+    if name.as_bytes() == b"resume".as_slice() {
+        return resume_command(second, third, number_word(fourth), fifth, None);
+    }
     if name.as_bytes() == b"sample".as_slice() {
         return sample_command(
             number_word(first),
@@ -228,6 +256,9 @@ fn six_words(
 {
     if name.as_bytes() == b"build".as_slice() {
         return build_command(weight, depth, modulus, order, Some(preferred));
+    }
+    if name.as_bytes() == b"resume".as_slice() {
+        return resume_command(weight, depth, modulus, order, Some(preferred));
     }
     Err(WordsFault::Usage)
 }

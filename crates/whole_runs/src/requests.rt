@@ -2,7 +2,7 @@
 ghost use Rattle.std.specs.Prelude.{◌≡◌, ◌≤◌, ◌<◌, ◌^◌, ◌⊎◌, IfOk, IfErr};
 ghost use Rattle.std.specs.Option.{option_map};
 ghost use Rattle.whole_runs.specs.CommandLine.{AsksFor, IsInRange, asked_dual, asked_listing, asked_probe};
-ghost use Rattle.whole_runs.specs.CommandLine.Request.{ForReduce, ForSample, ForBuild};
+ghost use Rattle.whole_runs.specs.CommandLine.Request.{ForReduce, ForSample, ForBuild, ForResume};
 
 use crate::command::{Command, WordsFault};
 use page_codec::{ParamFault, Params};
@@ -86,6 +86,22 @@ pub(crate) fn asked_build(
 {
     match Params::test(weight, depth, modulus, order, preferred) {
         Ok(params) => Ok(Command::Build { params }),
+        Err(fault) => Err(WordsFault::Param(fault)),
+    }
+}
+
+pub(crate) fn asked_resume(
+    weight: u64,
+    depth: u64,
+    modulus: u64,
+    order: &str,
+    preferred: Option<&str>,
+) -> Result<Command, WordsFault>
+    ensures asked { AsksFor (ForResume weight depth modulus order.now (option_map (λ t. t.now) preferred.entry)) result }
+    ensures in_range { IfOk result IsInRange }
+{
+    match Params::test(weight, depth, modulus, order, preferred) {
+        Ok(params) => Ok(Command::Resume { params }),
         Err(fault) => Err(WordsFault::Param(fault)),
     }
 }
