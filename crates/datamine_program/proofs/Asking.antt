@@ -5,7 +5,7 @@ use Rattle.dual_reply.specs.Canonical.{TellsSums}
 use Rattle.dual_reply.proofs.CanonicalLaw.{tells_sums}
 use Rattle.page_codec.specs.declared.params.Params.{Params}
 use Rattle.whole_runs.specs.declared.command.Command.{Command}
-use Rattle.whole_runs.specs.declared.command.Command.TheVariants.{Dual, Reduce, Check, Rewrite, Rational, Build}
+use Rattle.whole_runs.specs.declared.command.Command.TheVariants.{Dual, Reduce, Check, Rewrite, Rational, Build, Resume}
 use Rattle.whole_runs.specs.declared.command.WordsFault.{WordsFault}
 use Rattle.whole_runs.specs.declared.command.WordsFault.TheVariants.{Usage}
 use Rattle.whole_runs.specs.declared.status.Status.{Status}
@@ -22,6 +22,9 @@ use Rattle.file_model.specs.FinalRows.{IsWholeFile}
 
 pub same_build : (p q : Params) → ◌≡◌ {A = Command} (Build p) (Build q) → p ≡ q
 same_build p q is = cc
+
+pub same_resume : (p q : Params) → ◌≡◌ {A = Command} (Resume p) (Resume q) → p ≡ q
+same_resume p q is = cc
 
 -- what holds of each work of what is asked for holds of each that the words want
 pub each_wanted : (words : List (List ℕ)) (contents : Option (List ℕ)) (a : Asked) (P : Work → Type 0) → Asks words a → ((work : Work) → IsWork a contents work → P work)

@@ -1,6 +1,6 @@
 -- What a build tells, and what it leaves.
-use Rattle.std.proofs.Common.{◌≡◌, ◌⊎◌, inl, inr, ℕ, ◌+◌, ◌/◌, true, List, [], ◌∷◌, ◌++◌, append_assoc, length, Option, Some, None, refl, sym, ap, subst, ◌∙◌}
-use Rattle.std.specs.Prelude.{Ok, Err, IfSome, IsTrue, codes, decimal}
+use Rattle.std.proofs.Common.{◌≡◌, ◌⊎◌, inl, inr, ℕ, List, [], ◌∷◌, Option, Some, None, refl, sym, subst, ◌∙◌}
+use Rattle.std.specs.Prelude.{Ok, IfSome, IsTrue, codes}
 use Rattle.outside_io.specs.Traces.{Trace}
 use Rattle.zeta_model.specs.declared.Letter.{Letter}
 use Rattle.zeta_model.specs.Words.{is_admissible}
@@ -10,7 +10,7 @@ use Rattle.page_codec.specs.Bounds.{IsParams}
 use Rattle.page_file.specs.Stays.{Leaves}
 use Rattle.file_model.specs.Prefixes.{IsPrefix, IsFile, HasPages}
 use Rattle.file_model.specs.Builds.{Figures, Answer, BuildEnds, IsLeft}
-use Rattle.file_model.specs.Builds.Answer.{Exists, NoInverseWord, NoInverseRelation, Built}
+use Rattle.file_model.specs.Builds.Answer.{NoInverseRelation, Built}
 use Rattle.file_model.specs.Stays.{Stays}
 use Rattle.file_model.proofs.LeftFiles.{built_file, broken_file}
 use Rattle.file_model.proofs.OneFile.{nothing_is_prefix}
@@ -21,25 +21,9 @@ use Rattle.table_build.specs.declared.fault.BuildFault.TheVariants as fault
 use Rattle.whole_runs.specs.declared.command.Command.TheVariants.{Build}
 use Rattle.whole_runs.specs.declared.status.Status.{Status}
 use Rattle.whole_runs.specs.declared.status.Status.TheVariants as status
-use Rattle.whole_runs.specs.FileTexts.{figures_line}
 use Rattle.whole_runs.specs.FileWorks.{told_work}
 use Rattle.datamine_program.specs.Inner.{EndsFile, IsFileWork, CanTellFault, StatusOfFault, IsBuildFault}
 use Rattle.datamine_program.specs.Leaving.{AreBegun, BuildLeaves}
-
--- the line of a table that was built, from its pieces
-pub figures_pieces : (figures : Figures) (relations rows offered : ℕ) → relations ≡ figures.relations → rows ≡ figures.rows → offered ≡ figures.offered
-    → (codes "built: relations " ++ (decimal relations ++ (codes ", rows " ++ decimal rows)))
-    ++ (codes ", offered " ++ (decimal offered ++ (codes ", pages " ++ (decimal figures.pages ++ 10 ∷ [])))) ≡ figures_line (codes "built") figures
-figures_pieces figures relations rows offered a b c =
-    let first : List ℕ = codes "built: relations " in
-    let second : List ℕ = codes ", rows " in
-    let rest : List ℕ = codes ", pages " ++ (decimal figures.pages ++ 10 ∷ []) in
-    (λ i. (first ++ (decimal (a i) ++ (second ++ decimal (b i)))) ++ (codes ", offered " ++ (decimal (c i) ++ rest)))
-    ∙ append_assoc first (decimal figures.relations ++ (second ++ decimal figures.rows)) (codes ", offered " ++ (decimal figures.offered ++ rest))
-    ∙ ap (λ t. first ++ t)
-    (append_assoc (decimal figures.relations) (second ++ decimal figures.rows) (codes ", offered " ++ (decimal figures.offered ++ rest))
-    ∙ ap (λ t. decimal figures.relations ++ t)
-    (append_assoc second (decimal figures.rows) (codes ", offered " ++ (decimal figures.offered ++ rest))))
 
 -- the line of what is said of the bytes is the work
 pub build_work : (params : Params) (told : Option Trace) (answer : Answer) → IfSome told (λ t. BuildEnds params t.now.contents answer)
@@ -133,6 +117,15 @@ is_disk_fault (fault.Memory f) result is end = absurd (memory_not_disk result is
     memory_not_disk : (result : Status) → result ≡ status.Memory → ¬ (result ≡ status.DiskFault)
     memory_not_disk result is end = cc
 
+pub never_done : (e : BuildFault) (result : Status) → StatusOfFault e result → ¬ (result ≡ status.Done)
+never_done fault.DiskFault result is end = cc
+never_done (fault.Exists n) result is end = table_not_done result is end
+never_done (fault.BadPage i) result is end = table_not_done result is end
+never_done (fault.NoInverseWord value word) result is end = inverse_not_done result is end
+never_done (fault.NoInverseRelation value n) result is end = inverse_not_done result is end
+never_done (fault.Differs i) result is end = table_not_done result is end
+never_done (fault.Memory f) result is end = cc
+
 -- what is left over nothing
 module _ (params : Params) (fits : IsParams params) where
   empty_prefix : IsPrefix params 0 []
@@ -143,7 +136,7 @@ module _ (params : Params) (fits : IsParams params) where
   file_left figures (byte ∷ bytes) contents ends left = cc
 
   begun_left : (residue n : ℕ) (bytes contents : List ℕ) → BuildEnds params bytes (NoInverseRelation residue n) → IsLeft params bytes contents
-      → AreBegun params contents
+      → AreBegun params [] contents
   begun_left residue n [] contents ends left =
       let (pages, are, is, many) = broken_file params 0 n residue [] contents empty_prefix ends left in
       record { n = n; residue = residue; breaks = ends; pages = pages; are_pages = are; bytes_are = is; as_many = many }
@@ -157,7 +150,7 @@ module _ (params : Params) (fits : IsParams params) where
     built_left figures (Some t) (Some u) ends (left, settled) = (file_left figures t.now.contents u.now.contents ends left, settled)
 
     work_left : (residue n : ℕ) (o u : Option Trace) → IfSome o (λ t. BuildEnds params t.now.contents (NoInverseRelation residue n))
-        → Leaves (λ t bytes. IsLeft params t.now.contents bytes) o u → Leaves (λ t bytes. AreBegun params bytes) o u
+        → Leaves (λ t bytes. IsLeft params t.now.contents bytes) o u → Leaves (λ t bytes. AreBegun params [] bytes) o u
     work_left residue n None u ends left = left
     work_left residue n (Some t) None ends left = absurd left
     work_left residue n (Some t) (Some u) ends (left, settled) = (begun_left residue n t.now.contents u.now.contents ends left, settled)

@@ -12,7 +12,7 @@ use Rattle.file_model.specs.TableOf.{IsTableOf}
 use Rattle.file_model.proofs.ParamColumns.{same_columns}
 use Rattle.cert_checker.specs.Certified.{residues_at}
 use Rattle.table_checker.specs.Checks.{IsRowOf}
-use Rattle.whole_runs.specs.FileTexts.{params_text, missing_line, complete_line}
+use Rattle.whole_runs.specs.FileTexts.{params_text, missing_line, complete_line, other_line, migrated_line}
 use Rattle.datamine_program.proofs.ShownTexts.{columns_are, written_below}
 
 each_in : (rest : List (ℕ × ℕ)) → AllIn (λ (k : ℕ). true) rest
@@ -78,3 +78,25 @@ complete_pieces params relations rows a b none begun known counted left whole sa
     ∙ append_assoc first text ((second ++ n) ++ ((third ++ k) ++ 10 ∷ []))
     ∙ ap (λ t. first ++ (text ++ t)) (append_assoc second n ((third ++ k) ++ 10 ∷ []))
     ∙ ap (λ t. first ++ (text ++ (second ++ (n ++ t)))) (append_assoc third k (10 ∷ []))
+
+-- the line of other parameters, from its pieces
+pub other_pieces : (params : Params) (none begun left whole : List ℕ) → none ≡ [] → begun ≡ none ++ codes "not a table: other "
+    → left ≡ begun ++ params_text params → whole ≡ left ++ 10 ∷ [] → whole ≡ other_line params
+other_pieces params none begun left whole z is_begun is_left is_whole =
+    let first : List ℕ = codes "not a table: other " in
+    let text : List ℕ = params_text params in
+    is_whole ∙ ap (λ t. t ++ 10 ∷ []) (is_left ∙ ap (λ t. t ++ text) (is_begun ∙ ap (λ t. t ++ first) z)) ∙ append_assoc first text (10 ∷ [])
+
+-- the line of a version 1 file that was copied, from its pieces
+pub migrated_pieces : (params : Params) (pages : ℕ) (none begun left counted whole : List ℕ) → none ≡ [] → begun ≡ none ++ codes "migrated: "
+    → left ≡ begun ++ params_text params → counted ≡ left ++ (codes ", pages " ++ decimal pages) → whole ≡ counted ++ 10 ∷ []
+    → whole ≡ migrated_line params pages
+migrated_pieces params pages none begun left counted whole z is_begun is_left is_counted is_whole =
+    let first : List ℕ = codes "migrated: " in
+    let text : List ℕ = params_text params in
+    let second : List ℕ = codes ", pages " in
+    let n : List ℕ = decimal pages in
+    is_whole ∙ ap (λ t. t ++ 10 ∷ []) (is_counted ∙ ap (λ t. t ++ (second ++ n)) (is_left ∙ ap (λ t. t ++ text) (is_begun ∙ ap (λ t. t ++ first) z)))
+    ∙ append_assoc (first ++ text) (second ++ n) (10 ∷ [])
+    ∙ append_assoc first text ((second ++ n) ++ 10 ∷ [])
+    ∙ ap (λ t. first ++ (text ++ t)) (append_assoc second n (10 ∷ []))

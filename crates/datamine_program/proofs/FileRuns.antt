@@ -9,7 +9,7 @@ use Rattle.page_file.specs.Files.{ReadsAs, IsForeign, IsBadPage}
 use Rattle.table_model.specs.Faults.{IsFirstWithout}
 use Rattle.file_model.specs.Builds.{FitsOwn}
 use Rattle.file_model.specs.FinalRows.{EndsDone}
-use Rattle.whole_runs.specs.declared.command.Command.TheVariants.{Show, Check, Rewrite, Rational, Build}
+use Rattle.whole_runs.specs.declared.command.Command.TheVariants.{Show, Check, Rewrite, Rational}
 use Rattle.whole_runs.specs.declared.status.Status.{Status}
 use Rattle.whole_runs.specs.declared.status.Status.TheVariants as status
 use Rattle.whole_runs.specs.CommandLine.{Asked}
@@ -22,6 +22,7 @@ use Rattle.whole_runs.specs.Wanted.{IsWork}
 use Rattle.whole_runs.specs.Works.{Work, ReadsLines}
 use Rattle.whole_runs.specs.Works.Work.{Replies, Writes}
 use Rattle.whole_runs.specs.Outcomes.{Has, Outcome, AnswersSeen, AsksForReplies, NamesFile, contents_of}
+use Rattle.whole_runs.proofs.OneCopy.{untold_work, work_over}
 use Rattle.whole_runs.proofs.Outcomes.{outcome_of}
 use Rattle.datamine_program.specs.Inner.{ReadsTable, IsFileWork, IsRun}
 use Rattle.datamine_program.proofs.Runs.{lines_run, untold_lines_run, reads_lines, EndsLines}
@@ -41,12 +42,7 @@ names_file asked reads = absurd reads
 
 -- where no contents are told no work is
 pub no_work : (asked : Asked) → NamesFile asked → (work : Work) → ¬ (IsWork asked None work)
-no_work (Ok Show) names work is = is
-no_work (Ok Check) names work is = is
-no_work (Ok Rewrite) names work is = is
-no_work (Ok Rational) names work is = is
-no_work (Ok (Build params)) names work is = is
-no_work asked names work is = absurd names
+no_work asked names work is = untold_work asked names None work (work_over asked None None work is)
 
 -- a run over what the disk tells
 pub named_outcome : (asked : Asked) → NamesFile asked → (told : Option Trace) (work : Work) (left taken taken_new : Option (List ℕ)) (result : Status)
@@ -54,8 +50,8 @@ pub named_outcome : (asked : Asked) → NamesFile asked → (told : Option Trace
 named_outcome asked names None work left taken taken_new result is run = record {
   input = run.input;
   told = run.told;
-  front = λ v is_work. absurd (no_work asked names v is_work);
-  whole = λ told. let some : false ≡ true = told names in absurd cc;
+  front = λ v is_work. absurd (untold_work asked names left v is_work);
+  whole = λ told. let some : false ≡ true = told.0 names in absurd cc;
 }
 named_outcome asked names (Some t) work left taken taken_new result is run = outcome_of asked (Some t.now.contents) work left taken taken_new result is run
 

@@ -9,4 +9,7 @@ pub mod ShownPages
 pub mod FileRuns
 pub mod JudgedFiles
 pub mod CheckedTexts
+pub mod WrittenFigures
 pub mod Building
+pub mod GoingOn
+pub mod Migrating

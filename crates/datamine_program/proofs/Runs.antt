@@ -11,6 +11,7 @@ use Rattle.whole_runs.specs.Works.{Work, ReadsLines}
 use Rattle.whole_runs.specs.Wanted.{IsWork}
 use Rattle.whole_runs.specs.Works.Work.{Replies}
 use Rattle.whole_runs.specs.Outcomes.{Has, Outcome, AnswersSeen, AsksForReplies, NamesFile}
+use Rattle.whole_runs.proofs.OneCopy.{untold_work, lines_read}
 use Rattle.whole_runs.proofs.Outcomes.{each_work, outcome_of, answers_of}
 use Rattle.datamine_program.specs.Inner.{IsRun, EndsFile}
 
@@ -128,7 +129,7 @@ module _ (asked : Asked) (contents left taken taken_new : Option (List ℕ)) (re
     answered = λ e. absurd (subst IsQuiet e quiet);
     read_fault = λ e. absurd (subst IsQuiet e quiet);
     done = λ e asks. absurd (alone e asks);
-    takes = takes_none left;
+    takes = λ lines. takes_none left;
     usage = λ e. subst IsQuiet e quiet;
     params = λ e. subst IsQuiet e quiet;
     disk_fault = file;
@@ -166,9 +167,9 @@ module _ (asked : Asked) (contents : Option (List ℕ)) (reply : List ℕ → Li
       record {
         outcome = outcome_of asked contents (Replies reply) left taken taken_new result is has;
         answered = λ e. answers_of asked contents (Replies reply) left left_new taken taken_new is (answered e);
-        read_fault = λ e. asks;
+        read_fault = λ e. lines_read asked asks;
         done = λ e a. done e;
-        takes = takes;
+        takes = λ lines. takes;
         usage = λ e. subst IsPlain e plain;
         params = λ e. subst IsPlain e plain;
         disk_fault = λ e. absurd (subst IsPlain e plain);
@@ -189,13 +190,13 @@ module _ (asked : Asked) (none : (work : Work) → ¬ (IsWork asked None work)) 
         outcome = record {
           input = has.input;
           told = has.told;
-          front = λ work is. absurd (none work is);
-          whole = λ told. let some : false ≡ true = told names in absurd cc;
+          front = λ work is. absurd (untold_work asked names left work is);
+          whole = λ told. let some : false ≡ true = told.0 names in absurd cc;
         };
         answered = λ e work is. absurd (none work is);
-        read_fault = λ e. asks;
+        read_fault = λ e. lines_read asked asks;
         done = λ e a. done e;
-        takes = takes;
+        takes = λ lines. takes;
         usage = λ e. subst IsPlain e plain;
         params = λ e. subst IsPlain e plain;
         disk_fault = λ e. absurd (subst IsPlain e plain);

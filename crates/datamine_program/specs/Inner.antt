@@ -28,13 +28,19 @@ use Rattle.file_model.specs.Builds.{FitsAt, FitsOwn, BuildEnds}
 use Rattle.file_model.specs.Builds.Answer.{Exists, NoInverseWord as SaysNoInverseWord, NoInverseRelation as SaysNoInverseRelation}
 use Rattle.table_build.specs.declared.fault.BuildFault.{BuildFault}
 use Rattle.table_build.specs.declared.fault.BuildFault.TheVariants as built
+use Rattle.table_build.specs.declared.fault.ResumeFault.{ResumeFault}
+use Rattle.table_build.specs.declared.fault.ResumeFault.TheVariants as resumed
+use Rattle.table_migration.specs.Migrations.{Answer, MigrationEnds}
+use Rattle.table_migration.specs.Migrations.Answer.{BadPage as SaysBadPage, Misfit as SaysMisfit, NotDone as SaysNotDone}
+use Rattle.table_migration.specs.declared.fault.MigrateFault.{MigrateFault}
+use Rattle.table_migration.specs.declared.fault.MigrateFault.TheVariants as copied
 use Rattle.table_rewrite.specs.Replies.{AreReplies}
 use Rattle.line_samples.specs.Samples.{sample_lines}
-use Rattle.whole_runs.specs.declared.command.Command.TheVariants.{Dual, List as ListOf, Reduce, Sample, Probe, Show, Check, Rewrite, Rational, Build}
+use Rattle.whole_runs.specs.declared.command.Command.TheVariants.{Dual, List as ListOf, Reduce, Sample, Probe, Show, Check, Rewrite, Rational, Build, Resume, Migrate}
 use Rattle.whole_runs.specs.declared.status.Status.{Status}
 use Rattle.whole_runs.specs.declared.status.Status.TheVariants as status
 use Rattle.whole_runs.specs.CommandLine.{Asked}
-use Rattle.whole_runs.specs.Outcomes.{Outcome, AnswersSeen, AsksForReplies, NamesFile}
+use Rattle.whole_runs.specs.Outcomes.{Outcome, AnswersSeen, AsksForReplies, AsksForPages, ReadsSource, NamesFile}
 use Rattle.whole_runs.specs.Texts.{line, word_line, relation_line, term_line, sample_line}
 use Rattle.whole_runs.specs.FileTexts.{params_text, row_lines}
 use Rattle.whole_runs.specs.FileWorks.{IsTableFile}
@@ -131,9 +137,9 @@ HasText Memory = Unit {0}
 pub record IsRun (asked : Asked) (contents left left_new taken taken_new : Option (List ℕ)) (result : Status) : Type 0 where
   pub outcome : Outcome asked contents left taken taken_new result
   pub answered : result ≡ status.ReadFault → (work : Work) → IsWork asked contents work → AnswersSeen work left left_new taken taken_new
-  pub read_fault : result ≡ status.ReadFault → AsksForReplies asked
+  pub read_fault : result ≡ status.ReadFault → ReadsSource asked
   pub done : result ≡ status.Done → AsksForReplies asked → Tells left_new []
-  pub takes : TakesAtMost (input_limit + 1) left left_new
+  pub takes : ¬ (AsksForPages asked) → TakesAtMost (input_limit + 1) left left_new
   pub usage : ¬ (result ≡ status.Usage)
   pub params : ¬ (result ≡ status.Params)
   pub disk_fault : result ≡ status.DiskFault → NamesFile asked
@@ -215,6 +221,8 @@ ReadsTable (Ok Check) = Unit {0}
 ReadsTable (Ok Rewrite) = Unit {0}
 ReadsTable (Ok Rational) = Unit {0}
 ReadsTable (Ok (Build params)) = ⊥
+ReadsTable (Ok (Resume params)) = ⊥
+ReadsTable (Ok Migrate) = ⊥
 ReadsTable (Err fault) = ⊥
 
 -- and that table is checked
@@ -229,6 +237,8 @@ JudgesFile (Ok Check) = Unit {0}
 JudgesFile (Ok Rewrite) = Unit {0}
 JudgesFile (Ok Rational) = Unit {0}
 JudgesFile (Ok (Build params)) = ⊥
+JudgesFile (Ok (Resume params)) = ⊥
+JudgesFile (Ok Migrate) = ⊥
 JudgesFile (Err fault) = ⊥
 
 -- the work is what is asked for with the contents that the disk tells
@@ -296,3 +306,50 @@ IsBuildFault params told (built.NoInverseWord value word) = IfSome told (λ t. B
 IsBuildFault params told (built.NoInverseRelation value n) = IfSome told (λ t. BuildEnds params t.now.contents (SaysNoInverseRelation value n))
 IsBuildFault params told (built.Differs i) = told ≡ None
 IsBuildFault params told (built.Memory e) = Unit {0}
+
+-- how a run ends that tells why a build did not go on, where memory suffices and no write fails
+abbrev pub end_of : ResumeFault → Status
+end_of resumed.DiskFault = status.DiskFault
+end_of (resumed.Foreign n) = status.NotATable
+end_of (resumed.BadPage i) = status.NotATable
+end_of (resumed.Other params) = status.NotATable
+end_of (resumed.Misfit i) = status.NotATable
+end_of (resumed.NoInverseWord value word) = status.NoInverse
+end_of (resumed.NotForward i) = status.NotATable
+end_of (resumed.NoInverseRelation value n) = status.NoInverse
+end_of (resumed.Differs i) = status.NotATable
+end_of (resumed.Memory e) = status.Memory
+
+-- so it ends, unless memory is wanting or a write fails
+abbrev pub EndsAs : Status → Status → Type 0
+EndsAs end result = (result ≡ end) ⊎ (result ≡ status.Memory) ⊎ (result ≡ status.WriteFault)
+
+-- how a run of `migrate` may end
+abbrev pub EndsCopy : Status → Type 0
+EndsCopy result =
+    (result ≡ status.Done) ⊎ (result ≡ status.Memory) ⊎ (result ≡ status.DiskFault) ⊎ (result ≡ status.ReadFault) ⊎ (result ≡ status.WriteFault)
+    ⊎ (result ≡ status.NotATable) ⊎ (result ≡ status.NotComplete)
+
+-- how it ends where it tells this
+abbrev pub copy_end : MigrateFault → Status
+copy_end copied.DiskFault = status.DiskFault
+copy_end copied.ReadFault = status.ReadFault
+copy_end (copied.Exists n) = status.NotATable
+copy_end (copied.BadPage i) = status.NotATable
+copy_end (copied.Misfit i) = status.NotATable
+copy_end (copied.NotDone n) = status.NotComplete
+copy_end (copied.Memory e) = status.Memory
+
+-- nothing stood on the disk, and this is said of the bytes of the source, where they tell
+abbrev pub SaysOfCopy : Option Trace → Option (List ℕ) → Answer → Type 0
+SaysOfCopy told left answer = IfSome told (λ t. t.now.contents ≡ []) × IfSome left (λ bytes. MigrationEnds bytes answer)
+
+-- so it is where this is told
+abbrev pub IsCopyFault : Option Trace → Option (List ℕ) → MigrateFault → Type 0
+IsCopyFault told left copied.DiskFault = Unit {0}
+IsCopyFault told left copied.ReadFault = Unit {0}
+IsCopyFault told left (copied.Exists n) = IfSome told (λ t. (n ≡ length t.now.contents) × (0 < n))
+IsCopyFault told left (copied.BadPage i) = SaysOfCopy told left (SaysBadPage i)
+IsCopyFault told left (copied.Misfit i) = SaysOfCopy told left (SaysMisfit i)
+IsCopyFault told left (copied.NotDone n) = SaysOfCopy told left (SaysNotDone n)
+IsCopyFault told left (copied.Memory e) = Unit {0}

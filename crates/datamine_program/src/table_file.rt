@@ -6,14 +6,12 @@ ghost use Rattle.page_codec.specs.Places.{FitsPlace, walk_of};
 ghost use Rattle.page_file.specs.Files.{IsSealed};
 ghost use Rattle.page_file.specs.Notes.{Suits, count_of};
 ghost use Rattle.page_codec.specs.declared.page.Page.{Page};
-ghost use Rattle.table_model.specs.ListedSpan.{relation_count};
 ghost use Rattle.datamine_program.specs.Inner.{reading_fault, without_header, IsBehind, IsPageFault, IsShowFault};
 
 use outside_io::Disk;
 use page_codec::{Page, Params, Walk};
 use page_file::{FileFault, PageFile, look};
-use relation_list::listing;
-use std::alloc::{AllocError, Global};
+use std::alloc::Global;
 
 // Why the table in a file is not shown. The first cause in the order of the variants is told.
 #[derive(Drop)]
@@ -93,15 +91,6 @@ pub(crate) fn open_table<D: Disk>(alloc: Global, disk: &mut D) -> Result<TableFi
         Some(params) => Ok(TableFile { file, params }),
         None => Err(without_header(file.count())),
     }
-}
-
-// How many relations the table of the parameters has.
-pub(crate) fn relation_count(alloc: Global, params: &Params) -> Result<u32, AllocError>
-    requires { IsParams params.now }
-    ensures { IfOk result (λ n. n ≡ relation_count params.now.weight params.now.depth) }
-{
-    let names = listing(alloc, params.weight, params.depth)?;
-    Ok(names.len() as u32)
 }
 
 // Reads a page, and goes on over it where it fits behind those that the walk went over.

@@ -12,7 +12,7 @@ ghost use Rattle.file_model.specs.TableOf.{IsTableOf};
 ghost use Rattle.file_model.specs.FinalRows.{finals_of_page};
 ghost use Rattle.cert_checker.specs.Certified.{residues_at};
 ghost use Rattle.table_checker.specs.Checks.{IsRowOf};
-ghost use Rattle.whole_runs.specs.FileTexts.{order_text, preferred_text, params_text, complete_line, missing_line, negated, row_line, row_lines};
+ghost use Rattle.whole_runs.specs.FileTexts.{order_text, preferred_text, params_text, complete_line, other_line, migrated_line, missing_line, negated, row_line, row_lines};
 ghost use Rattle.datamine_program.specs.Inner.{word_gap, head_text, IsShowable, CanShow};
 
 use crate::table::columns_of;
@@ -109,6 +109,35 @@ pub(crate) fn complete_text(
     push_params(&mut text, params)?;
     push_count(&mut text, ", relations ", u64::from(relations))?;
     push_count(&mut text, ", rows ", u64::from(rows))?;
+    text.push_str("\n")?;
+    Ok(text)
+}
+
+// The line of a file that has other parameters, these.
+pub(crate) fn other_text(alloc: Global, params: &Params) -> Result<String, AllocError>
+    requires { IsParams params.now }
+    ensures { IfOk result (λ text. string_bytes text ≡ other_line params.now) }
+{
+    let mut text = String::new(alloc);
+    text.push_str("not a table: other ")?;
+    push_params(&mut text, params)?;
+    text.push_str("\n")?;
+    Ok(text)
+}
+
+// The line of a version 1 file that was copied.
+pub(crate) fn migrated_text(
+    alloc: Global,
+    params: &Params,
+    pages: u64,
+) -> Result<String, AllocError>
+    requires { IsParams params.now }
+    ensures { IfOk result (λ text. string_bytes text ≡ migrated_line params.now pages) }
+{
+    let mut text = String::new(alloc);
+    text.push_str("migrated: ")?;
+    push_params(&mut text, params)?;
+    push_count(&mut text, ", pages ", pages)?;
     text.push_str("\n")?;
     Ok(text)
 }

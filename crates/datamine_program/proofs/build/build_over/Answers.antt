@@ -1,4 +1,4 @@
-use Rattle.std.proofs.Common.{Ok, Err, inl, inr, ap}
+use Rattle.std.proofs.Common.{Ok, Err, inl, inr, ap, refl}
 use Rattle.std.specs.Prelude.{codes}
 use Rattle.file_model.specs.Builds.Answer.{Built}
 use Rattle.table_build.specs.Answers.{figures_of}
@@ -7,7 +7,8 @@ use Rattle.whole_runs.specs.declared.status.Status.TheVariants as status
 use Rattle.whole_runs.specs.FileTexts.{figures_line}
 use Rattle.whole_runs.specs.Works.Work.{Writes}
 use Rattle.datamine_program.proofs.FileRuns.{named_outcome}
-use Rattle.datamine_program.proofs.Building.{build_work, built_ends, built_leaves, fault_told, can_tell_fault, fault_ends, is_disk_fault, fault_leaves}
+use Rattle.datamine_program.proofs.GoingOn.{built_in_file}
+use Rattle.datamine_program.proofs.Building.{build_work, built_ends, built_leaves, fault_told, can_tell_fault, fault_ends, is_disk_fault, fault_leaves, never_done}
 use Rattle.datamine_program.proofs.build.build_over.Goals as goal
 
 pub returns-in-Ok-clause-which : goal.returns-in-Ok-clause-which
@@ -49,3 +50,11 @@ returns-in-Err-clause-leaves g c =
 pub returns-in-Err-clause-disk_fault_only : goal.returns-in-Err-clause-disk_fault_only
 returns-in-Err-clause-disk_fault_only g c =
     λ end. c.in-Err.ensures.disk_fault (ap Err (is_disk_fault c.in-Err.fault c.refuse_build.result c.refuse_build.ensures.which end))
+
+pub returns-in-Ok-clause-in_file : goal.returns-in-Ok-clause-in_file
+returns-in-Ok-clause-in_file g c = λ done.
+    built_in_file c.args.params.now (g.D.Disk.trace c.args.disk.now) (g.D.Disk.trace c.build.new.disk) c.requires.params (c.in-Ok.ensures.image refl)
+    (figures_of c.in-Ok.built) c.in-Ok.ensures.ends (c.in-Ok.ensures.left tt)
+
+pub returns-in-Err-clause-in_file : goal.returns-in-Err-clause-in_file
+returns-in-Err-clause-in_file g c = λ done. absurd (never_done c.in-Err.fault c.refuse_build.result c.refuse_build.ensures.which done)

@@ -1,11 +1,13 @@
 use Rattle.std.proofs.Common.{Ok, None, inl, inr, refl, subst, sym, ◌≡◌, ◌∙◌}
 use Rattle.dual_reply.specs.Reply.{reply_of}
-use Rattle.whole_runs.specs.declared.command.Command.TheVariants.{Dual, List as ListOf, Sample, Show, Check, Build}
-use Rattle.whole_runs.specs.Outcomes.{contents_of}
+use Rattle.whole_runs.specs.declared.command.Command.TheVariants.{Dual, List as ListOf, Sample, Show, Check, Build, Resume, Migrate}
+use Rattle.whole_runs.specs.Outcomes.{ReadsSource, contents_of}
 use Rattle.whole_runs.specs.Wanted.{IsWork}
 use Rattle.datamine_program.proofs.Runs.{written_run, file_run, reads_lines}
-use Rattle.datamine_program.specs.Leaving.{WritesFile, BuildLeaves}
-use Rattle.datamine_program.proofs.Asking.{same_build}
+use Rattle.file_model.specs.Histories.{EndsInFile}
+use Rattle.datamine_program.specs.Leaving.{WritesFile, BuildLeaves, ResumeLeaves}
+use Rattle.datamine_program.proofs.Asking.{same_build, same_resume}
+use Rattle.datamine_program.proofs.Migrating.{copy_run, over_refusal}
 use Rattle.datamine_program.proofs.commands.perform.Goals as goal
 
 pub returns-in-Dual-clause-run : goal.returns-in-Dual-clause-run
@@ -85,3 +87,40 @@ pub returns-in-Rational-clause-source : goal.returns-in-Rational-clause-source
 returns-in-Rational-clause-source g c = λ work is quiet.
     let contents = contents_of (g.D.Disk.trace c.args.disk.now) in
     c.run_rational.ensures.source work (subst (λ command. IsWork (Ok command) contents work) c.in-Rational.is is) quiet
+
+pub returns-in-Build-clause-built_in_file : goal.returns-in-Build-clause-built_in_file
+returns-in-Build-clause-built_in_file g c = λ params is done.
+    let same : c.in-Build.params ≡ params = same_build c.in-Build.params params (sym c.in-Build.is ∙ is) in
+    subst (λ p. EndsInFile p (g.D.Disk.trace c.args.disk.now) (g.D.Disk.trace c.run_build.new.disk)) same (c.run_build.ensures.in_file done)
+
+pub returns-in-Resume-clause-run : goal.returns-in-Resume-clause-run
+returns-in-Resume-clause-run g c = rw c.in-Resume.is
+    (file_run (Ok (Resume c.in-Resume.params)) _ _ _ _ _ (c.run_resume.ensures.outcome _) c.run_resume.ensures.which tt (λ a. a))
+
+pub returns-in-Resume-clause-resume : goal.returns-in-Resume-clause-resume
+returns-in-Resume-clause-resume g c = λ params is.
+    let same : c.in-Resume.params ≡ params = same_resume c.in-Resume.params params (sym c.in-Resume.is ∙ is) in
+    subst (λ p. ResumeLeaves p c.run_resume.result (g.D.Disk.trace c.args.disk.now) (g.D.Disk.trace c.run_resume.new.disk)) same c.run_resume.ensures.leaves
+
+pub returns-in-Resume-clause-resumed_in_file : goal.returns-in-Resume-clause-resumed_in_file
+returns-in-Resume-clause-resumed_in_file g c = λ params is done.
+    let same : c.in-Resume.params ≡ params = same_resume c.in-Resume.params params (sym c.in-Resume.is ∙ is) in
+    subst (λ p. EndsInFile p (g.D.Disk.trace c.args.disk.now) (g.D.Disk.trace c.run_resume.new.disk)) same (c.run_resume.ensures.in_file done)
+
+pub returns-in-Resume-clause-unchanged : goal.returns-in-Resume-clause-unchanged
+returns-in-Resume-clause-unchanged g c = λ quiet. absurd (quiet (subst (λ command. WritesFile (Ok command)) (sym c.in-Resume.is) tt))
+
+pub returns-in-Migrate-clause-run : goal.returns-in-Migrate-clause-run
+returns-in-Migrate-clause-run g c = rw c.in-Migrate.is
+    (copy_run (g.D.Disk.trace c.args.disk.now) _ _ _ _ _ c.run_migrate.ensures.outcome c.run_migrate.ensures.which c.run_migrate.ensures.empty)
+
+pub returns-in-Migrate-clause-source : goal.returns-in-Migrate-clause-source
+returns-in-Migrate-clause-source g c = λ work is quiet.
+    let told = g.D.Disk.trace c.args.disk.now in
+    over_refusal _ told c.run_migrate.ensures.untaken work (subst (λ command. IsWork (Ok command) (contents_of told) work) c.in-Migrate.is is)
+
+pub returns-in-Migrate-clause-no_lines : goal.returns-in-Migrate-clause-no_lines
+returns-in-Migrate-clause-no_lines g c = λ quiet. absurd (quiet (subst (λ command. ReadsSource (Ok command)) (sym c.in-Migrate.is) tt))
+
+pub returns-in-Migrate-clause-unchanged : goal.returns-in-Migrate-clause-unchanged
+returns-in-Migrate-clause-unchanged g c = λ quiet. absurd (quiet (subst (λ command. WritesFile (Ok command)) (sym c.in-Migrate.is) tt))

@@ -1,11 +1,12 @@
-use Rattle.std.proofs.Common.{Ok, Err, map, string_bytes, subst}
-use Rattle.whole_runs.specs.declared.command.Command.TheVariants.{Check, Rewrite, Rational, Build}
+use Rattle.std.proofs.Common.{Ok, Err, map, string_bytes, subst, inl, inr}
+use Rattle.whole_runs.specs.declared.command.Command.TheVariants.{Check, Rewrite, Rational, Build, Resume, Migrate}
 use Rattle.whole_runs.specs.CommandLine.{Asks}
-use Rattle.whole_runs.specs.Outcomes.{Outcome, AnswersSeen, AsksForReplies, NamesFile}
+use Rattle.whole_runs.specs.Outcomes.{Outcome, AnswersSeen, AsksForReplies, AsksForPages, ReadsSource, NamesFile}
 use Rattle.whole_runs.specs.Works.{ReadsLines}
 use Rattle.whole_runs.proofs.Outcomes.{each_asked}
 use Rattle.datamine_program.proofs.Asking.{each_wanted, not_usage, passes, dual_tells, table_tells, file_checked, file_tells, fractions_tell, same_fault, fails, no_dual, no_reduce, no_command, is_asked}
 use Rattle.datamine_program.specs.Leaving.{WritesFile}
+use Rattle.file_model.proofs.PastSteps.{run_continues}
 use Rattle.datamine_program.proofs.Runs.{takes_none}
 use Rattle.datamine_program.proofs.commands.run.Goals as goal
 
@@ -48,7 +49,10 @@ returns-in-Ok-clause-source g c =
     each_wanted words _ (Ok c.in-Ok.command) (λ work. ¬ (ReadsLines work) → _) c.in-Ok.ensures.asked c.perform.ensures.source
 
 pub returns-in-Ok-clause-takes : goal.returns-in-Ok-clause-takes
-returns-in-Ok-clause-takes g c = c.perform.ensures.run.takes
+returns-in-Ok-clause-takes g c =
+    let words = map string_bytes c.args.words.now in
+    λ asked is lines.
+    c.perform.ensures.run.takes (λ pages. lines (each_asked words (Ok c.in-Ok.command) (λ b. AsksForPages b) c.in-Ok.ensures.asked pages asked is))
 
 pub returns-in-Ok-clause-replies : goal.returns-in-Ok-clause-replies
 returns-in-Ok-clause-replies g c =
@@ -78,7 +82,7 @@ returns-in-Err-clause-outcome g c =
     each_asked words (Err c.in-Err.fault) (λ a. Outcome a _ _ _ _ _) c.in-Err.ensures.asked (c.refuse.ensures.outcome _ _)
 
 pub returns-in-Err-clause-takes : goal.returns-in-Err-clause-takes
-returns-in-Err-clause-takes g c = takes_none _
+returns-in-Err-clause-takes g c = λ asked is lines. takes_none _
 
 pub returns-in-Err-clause-replies : goal.returns-in-Err-clause-replies
 returns-in-Err-clause-replies g c =
@@ -92,7 +96,7 @@ pub returns-in-Ok-clause-no_lines : goal.returns-in-Ok-clause-no_lines
 returns-in-Ok-clause-no_lines g c =
     let words = map string_bytes c.args.words.now in
     λ asked is quiet.
-    c.perform.ensures.no_lines (λ a. quiet (each_asked words (Ok c.in-Ok.command) (λ b. AsksForReplies b) c.in-Ok.ensures.asked a asked is))
+    c.perform.ensures.no_lines (λ a. quiet (each_asked words (Ok c.in-Ok.command) (λ b. ReadsSource b) c.in-Ok.ensures.asked a asked is))
 
 pub returns-in-Ok-clause-disk : goal.returns-in-Ok-clause-disk
 returns-in-Ok-clause-disk g c =
@@ -137,3 +141,57 @@ returns-in-Ok-clause-build g c = λ params is.
 pub returns-in-Err-clause-build : goal.returns-in-Err-clause-build
 returns-in-Err-clause-build g c =
     λ params is. absurd (no_command (map string_bytes c.args.words.now) c.in-Err.fault c.in-Err.ensures.asked (Build params) is)
+
+pub returns-in-Ok-clause-resume : goal.returns-in-Ok-clause-resume
+returns-in-Ok-clause-resume g c = λ params is.
+    c.perform.ensures.resume params (is_asked (map string_bytes c.args.words.now) c.in-Ok.command c.in-Ok.ensures.asked (Resume params) is)
+
+pub returns-in-Err-clause-resume : goal.returns-in-Err-clause-resume
+returns-in-Err-clause-resume g c =
+    λ params is. absurd (no_command (map string_bytes c.args.words.now) c.in-Err.fault c.in-Err.ensures.asked (Resume params) is)
+
+pub returns-in-Ok-clause-migrate : goal.returns-in-Ok-clause-migrate
+returns-in-Ok-clause-migrate g c = λ is.
+    c.perform.ensures.migrate (is_asked (map string_bytes c.args.words.now) c.in-Ok.command c.in-Ok.ensures.asked Migrate is)
+
+pub returns-in-Err-clause-migrate : goal.returns-in-Err-clause-migrate
+returns-in-Err-clause-migrate g c =
+    λ is. absurd (no_command (map string_bytes c.args.words.now) c.in-Err.fault c.in-Err.ensures.asked Migrate is)
+
+pub returns-in-Ok-clause-continues : goal.returns-in-Ok-clause-continues
+returns-in-Ok-clause-continues g c = λ params asked is builds.
+    let words = map string_bytes c.args.words.now in
+    elim builds [
+      | inl same ↦
+          let left = c.perform.ensures.build params (is_asked words c.in-Ok.command c.in-Ok.ensures.asked (Build params) (subst (Asks words) same is)) in
+          run_continues params _ _ left.stays
+      | inr same ↦
+          let left = c.perform.ensures.resume params (is_asked words c.in-Ok.command c.in-Ok.ensures.asked (Resume params) (subst (Asks words) same is)) in
+          run_continues params _ _ left.stays
+    ]
+
+pub returns-in-Err-clause-continues : goal.returns-in-Err-clause-continues
+returns-in-Err-clause-continues g c = λ params asked is builds.
+    let words = map string_bytes c.args.words.now in
+    elim builds [
+      | inl same ↦ absurd (no_command words c.in-Err.fault c.in-Err.ensures.asked (Build params) (subst (Asks words) same is))
+      | inr same ↦ absurd (no_command words c.in-Err.fault c.in-Err.ensures.asked (Resume params) (subst (Asks words) same is))
+    ]
+
+pub returns-in-Ok-clause-in_file : goal.returns-in-Ok-clause-in_file
+returns-in-Ok-clause-in_file g c = λ params asked is builds done.
+    let words = map string_bytes c.args.words.now in
+    elim builds [
+      | inl same ↦ c.perform.ensures.built_in_file params
+          (is_asked words c.in-Ok.command c.in-Ok.ensures.asked (Build params) (subst (Asks words) same is)) done
+      | inr same ↦ c.perform.ensures.resumed_in_file params
+          (is_asked words c.in-Ok.command c.in-Ok.ensures.asked (Resume params) (subst (Asks words) same is)) done
+    ]
+
+pub returns-in-Err-clause-in_file : goal.returns-in-Err-clause-in_file
+returns-in-Err-clause-in_file g c = λ params asked is builds done.
+    let words = map string_bytes c.args.words.now in
+    elim builds [
+      | inl same ↦ absurd (no_command words c.in-Err.fault c.in-Err.ensures.asked (Build params) (subst (Asks words) same is))
+      | inr same ↦ absurd (no_command words c.in-Err.fault c.in-Err.ensures.asked (Resume params) (subst (Asks words) same is))
+    ]

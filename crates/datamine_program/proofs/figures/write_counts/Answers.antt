@@ -3,7 +3,7 @@ use Rattle.std.specs.Prelude.{decimal}
 use Rattle.std.proofs.lemmas.Result.{err_from_is_err_and, on_ok_weaker, on_err_weaker}
 use Rattle.outside_io.specs.Told.{after_told, AppendsFront}
 use Rattle.outside_io.proofs.Telling.{both_taken, front_more, front_of}
-use Rattle.datamine_program.proofs.build.write_counts.Goals as goal
+use Rattle.datamine_program.proofs.figures.write_counts.Goals as goal
 
 pub returns-in_err-write_begun-clause-err : goal.returns-in_err-write_begun-clause-err
 returns-in_err-write_begun-clause-err g c =

@@ -4,8 +4,8 @@ use Rattle.std.proofs.lemmas.Result.{err_from_is_err_and, on_ok_weaker, on_err_w
 use Rattle.outside_io.specs.Told.{after_told, AppendsFront}
 use Rattle.outside_io.proofs.Telling.{both_taken, front_more, front_of}
 use Rattle.table_build.specs.Answers.{figures_of}
-use Rattle.datamine_program.proofs.Building.{figures_pieces}
-use Rattle.datamine_program.proofs.build.write_built.Goals as goal
+use Rattle.datamine_program.proofs.WrittenFigures.{figures_pieces}
+use Rattle.datamine_program.proofs.figures.write_counted.Goals as goal
 
 pub returns-in_err-write_counts-clause-err : goal.returns-in_err-write_counts-clause-err
 returns-in_err-write_counts-clause-err g c =
