@@ -16,7 +16,11 @@ mod files;
 #[cfg(test)]
 mod loops;
 #[cfg(test)]
+mod migrated;
+#[cfg(test)]
 mod replies;
+#[cfg(test)]
+mod resumed;
 #[cfg(test)]
 mod sealing;
 #[cfg(test)]
