@@ -18,7 +18,7 @@ offers() {
     fi
 }
 
-offers "dual list reduce build check rewrite show sample rational probe" mzv ""
+offers "dual list reduce build resume migrate check rewrite show sample rational probe" mzv ""
 offers "dual" mzv d
 offers "show sample" mzv s
 offers "mzv.bash" mzv show mz
@@ -29,9 +29,15 @@ offers "1 2 3" mzv build table 4 ""
 offers "" mzv build table 4 3 ""
 offers "lex odd" mzv build table 4 3 101 ""
 offers "" mzv build table 4 3 101 lex ""
+offers "mzv.bash" mzv resume mz
+offers "2 20 21 22 23 24" mzv resume table 2
+offers "1 2 3" mzv resume table 4 ""
+offers "lex odd" mzv resume table 4 3 101 ""
+offers "mzv.bash" mzv migrate mz
+offers "" mzv migrate table ""
 offers "mzv.bash" mzv rewrite mz
 offers "" mzv show mzv.bash ""
-offers "reduce rewrite rational" mzv r
+offers "reduce resume rewrite rational" mzv r
 offers "mzv.bash" mzv rational mz
 offers "2 20 21 22 23 24" mzv list 2
 offers "2 20 21 22 23 24" mzv sample 2
@@ -67,13 +73,17 @@ describes() {
 }
 
 if command -v zsh >/dev/null 2>&1; then
-    describes "dual list reduce build check rewrite show sample rational probe" mzv ""
+    describes "dual list reduce build resume migrate check rewrite show sample rational probe" mzv ""
     describes "files" mzv show ""
     describes "files" mzv check ""
     describes "files" mzv build ""
     describes "1 2 3" mzv build table 4 ""
     describes "modulus, from 3 to 9223372036854775807" mzv build table 4 3 ""
     describes "lex odd" mzv build table 4 3 101 ""
+    describes "files" mzv resume ""
+    describes "1 2 3" mzv resume table 4 ""
+    describes "lex odd" mzv resume table 4 3 101 ""
+    describes "files" mzv migrate ""
     describes "files" mzv rewrite ""
     describes "files" mzv rational ""
     describes "" mzv show table ""

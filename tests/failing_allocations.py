@@ -6,7 +6,7 @@
 With ample memory a command gives its whole output. With one allocation that fails it has to end with status 1 and a first
 part of that output, or, where the allocation does not matter, with the whole output and its status; words that fit no
 command and parameters that fail their test have to be refused whatever memory there is, unless the words themselves could
-not be had. A file that is built has to hold the first pages of its table by then, and all of them where the run was not broken
+not be had. A file that is built or gone on with has to hold the first pages of its table by then, and all of them where the run was not broken
 off. The last line is 'N passed, M failed'.
 """
 import os
@@ -18,11 +18,13 @@ HERE = os.path.dirname(os.path.abspath(__file__))
 sys.path.insert(0, HERE)
 from oracle.builds import built_pages  # noqa: E402
 from oracle.files import contents_of, file_of, sealed_pages  # noqa: E402
+from oracle.migrations import old_file_of  # noqa: E402
 
 # The files that are there: a table of 4 pages, its first 3 pages, the table with a bad page, with another combination beside its last row,
 # and without its last row; and one whose words do not convert.
 PAGES = built_pages((4, 3, 101, "lex", ()))[0]
 TABLE = file_of(PAGES)
+OLD = old_file_of(PAGES)
 ROWS = PAGES[2][2]
 FILES = {"table": TABLE, "stopped": TABLE[:-9], "bad": TABLE[:-8] + b"\0" * 8,
          "false": file_of(PAGES[:2] + [("Final", 0, ROWS[:-1] + ((ROWS[-1][0], ROWS[0][1]),)), PAGES[3]]),
@@ -45,6 +47,16 @@ CASES = [
     (["build", "built", "4", "3", "15", "lex"], b""),
     (["build", "built", "4", "3", "100", "lex"], b""),
     (["build", "table", "4", "3", "101", "lex"], b""),
+    (["resume", "built", "4", "3", "101", "lex"], b""),
+    (["resume", "built", "4", "3", "15", "lex"], b""),
+    (["resume", "table", "4", "3", "101", "lex"], b""),
+    (["resume", "table", "4", "3", "103", "lex", "z(2)"], b""),
+    (["resume", "false", "4", "3", "101", "lex"], b""),
+    (["resume", "bad", "4", "3", "101", "lex"], b""),
+    (["migrate", "built"], OLD),
+    (["migrate", "built"], OLD[:30]),
+    (["migrate", "built"], OLD[:26] + TABLE[-10:]),
+    (["migrate", "table"], OLD),
     (["check", "table"], b""),
     (["check", "stopped"], b""),
     (["check", "false"], b""),

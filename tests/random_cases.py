@@ -1,14 +1,15 @@
 """Random cases, by area: the words of a command line, the bytes of standard input, those of a file, and what fails."""
 from oracle.command_line import MAX_PREFERRED
 from oracle.lyndon import is_lyndon
+from oracle.migrations import HEADER_LENGTH, NEW_HEADER, OLD_HEADER
 from oracle.program import MAX_INPUT
 from oracle.words import admissible_words, text
 from random_files import Files
 
 NOT_NUMBERS = ("", "x", "-1", "+3", " 3", "3 ", "1.0", "0x5", str(2**64), "9" * 40, "\u0663", "\udcff")
 COMMANDS = ("dual", "list", "reduce", "sample", "probe", "build", "resume", "check", "rewrite", "show", "migrate", "rational", "", "help", "Dual")
-FORMS = {"dual": "M", "list": "WD", "reduce": "WDMO", "build": "FWDMO", "check": "F", "rewrite": "F", "show": "F", "sample": "WDMSS", "rational": "F",
-         "probe": "DM"}
+FORMS = {"dual": "M", "list": "WD", "reduce": "WDMO", "build": "FWDMO", "resume": "FWDMO", "check": "F", "rewrite": "F", "show": "F", "migrate": "F",
+         "sample": "WDMSS", "rational": "F", "probe": "DM"}
 WRONG_SHAPES = ((25, 1), (4, 4), (14, 13), (0, 0), (2, 0), (24, 5), (1, 1), (5, 2**64 - 1), (2**64 - 1, 2))
 WRONG_LISTS = ("", "+", "z(2)+", "+z(2)", "z()", "z(0)", "z(02)", "z(2) ", "Z(2)", "z(2)+z(2)", "z(3)+z(2)", "z(2,2)", "z(1)", "z(9999)", "z(2)\n", "z(2)\udcff",
                "+".join(["z(2)"] * 17))
@@ -16,7 +17,9 @@ FAULTY = ("dual 101", "dual 2", "list 4 3", "list 9 9", "reduce 4 3 101 lex", "r
           "sample 4 3 100 1 2", "probe 2 101", "probe 5 15", "probe 0 101", "")
 FILE_FAULTS = ("show t", "show none/t", "show t/t", "show .", "check t", "check none/t", "check t/t", "check .", "rewrite t", "rewrite none/t",
                "rewrite t/t", "rewrite .", "rational t", "rational none/t", "rational .",
-               "build t 3 2 5 lex", "build t 4 3 100 lex", "build t 4 3 15 lex", "build none/t 3 2 5 lex", "build t/t 3 2 5 lex")
+               "build t 3 2 5 lex", "build t 4 3 100 lex", "build t 4 3 15 lex", "build none/t 3 2 5 lex", "build t/t 3 2 5 lex",
+               "resume t 3 2 5 lex", "resume t 4 3 100 lex", "resume t 4 3 15 lex", "resume none/t 3 2 5 lex", "resume t/t 3 2 5 lex", "resume .",
+               "migrate t", "migrate none/t", "migrate t/t", "migrate .")
 
 
 class Case:
@@ -77,6 +80,21 @@ class Maker(Files):
         words = self.table(shape) + preferred if self.chance(0.97) else [8, 7, 289, "lex"]
         return Case(["build", "t"] + words, b"z(2)\n", contents=contents)
 
+    def resume(self):
+        params = self.params(7)
+        weight, most, modulus, mode, preferred = params if self.chance(0.95) else self.params(4)
+        words = [weight, most, modulus, mode] + ["+".join(map(text, preferred))] * bool(preferred)
+        contents = self.table_file(params, 0.8) if self.chance(0.95) else None
+        return Case(["resume", "t"] + words, b"z(2)\n", contents=contents)
+
+    def migrate(self):
+        weight, most, modulus, mode, preferred = self.params(7)
+        given = self.table_file((weight, most, modulus, mode, preferred if self.chance(0.05) else ()), self.some(0, 0.8))
+        if given[1:1 + len(NEW_HEADER)] == NEW_HEADER and self.chance(0.97):
+            given = given[:1] + OLD_HEADER + given[1 + len(NEW_HEADER):1 + HEADER_LENGTH] + given[2 + HEADER_LENGTH:]
+        contents = None if self.chance(0.9) else self.some(b"", b"", b"\0", b"\1", bytes(108))
+        return Case(["migrate", "t"], given[:self.below(len(given) + 1)] if self.chance(0.2) else given + b"\0" * self.below(3), contents=contents)
+
     def check(self):
         return Case(["check", "t"], b"z(2)\n", contents=self.table_file(self.params(7), 0.8) if self.chance(0.99) else None)
 
@@ -125,4 +143,4 @@ class Maker(Files):
         return Case(self.some("dual 101", "reduce 3 2 5 lex", "probe 2 101").split(), given)
 
 
-AREAS = ("dual", "list", "reduce", "build", "check", "rewrite", "show", "sample", "rational", "probe", "usage", "fault")
+AREAS = ("dual", "list", "reduce", "build", "resume", "migrate", "check", "rewrite", "show", "sample", "rational", "probe", "usage", "fault")

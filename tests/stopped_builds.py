@@ -1,12 +1,14 @@
 #!/usr/bin/env python3
-"""Ends builds by a signal at random moments, and looks whether the first pages of the table's file are left; meanwhile asks `show`.
+"""Ends builds by a signal at random moments, and looks whether the first pages of the table's file are left and whether `resume` makes it
+whole; meanwhile asks `show`.
 
     tests/stopped_builds.py PATH_TO_MZV [COUNT [W D]]
 
 The table, (10, 9) where none is given, is built once whole. Then COUNT builds, 60 where no number is given, are ended within the time that this
 took. What a killed program wrote is not lost, so this tries the order of writes and not the disk: sealed pages have to be the first ones of the
 whole file, byte for byte. While a build goes on `show` has to tell no more pages than are left at the end, and status 8 for the next one alone,
-which was written as `show` read. The last line is 'N passed, M failed'.
+which was written as `show` read. Then `resume` is ended so up to three times, and has to leave as many sealed pages as there were, or more; at last
+it has to end with status 0 and leave the whole file. The last line is 'N passed, M failed'.
 """
 import os
 import random
@@ -24,9 +26,9 @@ from oracle.files import contents_of, file_of, sealed_pages  # noqa: E402
 MODULUS = "2305843009213693951"
 
 
-def start(mzv, path, shape):
-    """A build that was begun."""
-    return subprocess.Popen([mzv, "build", path, *shape, MODULUS, "lex"], stdout=subprocess.DEVNULL)
+def start(mzv, path, shape, command="build"):
+    """A build that was begun, or gone on with."""
+    return subprocess.Popen([mzv, command, path, *shape, MODULUS, "lex"], stdout=subprocess.DEVNULL)
 
 
 def shown(mzv, path):
@@ -49,12 +51,33 @@ def stopped(mzv, path, shape, seconds):
     return told, contents_of(path)
 
 
+def front_fault(pages, whole):
+    """What is wrong with sealed pages, if something is."""
+    front = file_of(pages)[:-1]
+    return None if whole[:len(front)] == front else "%d sealed pages are not the first of the file" % len(pages)
+
+
+def resumed(mzv, path, shape, numbers, took, whole):
+    """What is wrong with a file with which a build goes on, ended a few times and then let to its end, if something is."""
+    for _ in range(numbers.randrange(4)):
+        before, going = len(sealed_pages(contents_of(path))), start(mzv, path, shape, "resume")
+        time.sleep(numbers.random() * took / 2)
+        going.send_signal(signal.SIGKILL)
+        going.wait()
+        pages = sealed_pages(contents_of(path))
+        wrong = front_fault(pages, whole)
+        if wrong or len(pages) < before:
+            return wrong or "of %d sealed pages resume left %d" % (before, len(pages))
+    status = start(mzv, path, shape, "resume").wait()
+    return None if status == 0 and contents_of(path) == whole else "resume ended with status %d, and left another file" % status
+
+
 def fault(told, contents, whole):
     """What is wrong with what was told and left, if something is."""
     pages = sealed_pages(contents)
-    front = file_of(pages)[:-1]
-    if whole[:len(front)] != front:
-        return "%d sealed pages are not the first of the file" % len(pages)
+    wrong = front_fault(pages, whole)
+    if wrong:
+        return wrong
     counts = [count for count, _ in told]
     if not all(fits for _, fits in told) or counts != sorted(counts) or max(counts, default=0) > len(pages):
         return "show told %r of %d sealed pages" % (told, len(pages))
@@ -69,7 +92,7 @@ def main():
         assert start(mzv, path, shape).wait() == 0, "the whole build failed"
         took, whole = time.monotonic() - begin, contents_of(path)
         for _ in range(int(count)):
-            wrong = fault(*stopped(mzv, path, shape, numbers.random() * took), whole)
+            wrong = fault(*stopped(mzv, path, shape, numbers.random() * took), whole) or resumed(mzv, path, shape, numbers, took, whole)
             passed, failed = passed + (not wrong), failed + bool(wrong)
             if wrong:
                 print(wrong)

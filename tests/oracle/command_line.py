@@ -12,8 +12,8 @@ USAGE_LINE = (
     "rewrite FILE; show FILE; sample W D M SEED COUNT; migrate FILE; rational FILE; probe N M")
 
 # The forms of each command: an N is a number word, a W any word.
-FORMS = {"dual": ["N"], "list": ["NN"], "reduce": ["NNNW", "NNNWW"], "build": ["WNNNW", "WNNNWW"], "check": ["W"], "rewrite": ["W"], "show": ["W"],
-         "sample": ["NNNNN"], "rational": ["W"], "probe": ["NN"]}
+FORMS = {"dual": ["N"], "list": ["NN"], "reduce": ["NNNW", "NNNWW"], "build": ["WNNNW", "WNNNWW"], "resume": ["WNNNW", "WNNNWW"], "check": ["W"],
+         "rewrite": ["W"], "show": ["W"], "migrate": ["W"], "sample": ["NNNNN"], "rational": ["W"], "probe": ["NN"]}
 WORD_TEXT = re.compile(r"z\([1-9][0-9]{0,3}(,[1-9][0-9]{0,3})*\)")
 
 
@@ -109,7 +109,7 @@ def asked(words):
         test_columns(*values)
     elif name == "reduce":
         values = test_table(*values)
-    elif name == "build":
+    elif name in ("build", "resume"):
         values = values[0], test_table(*values[1:])
     elif name == "sample":
         values = [test_table(*values[:3], "lex")] + values[3:]

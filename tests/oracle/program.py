@@ -2,12 +2,13 @@
 from functools import partial
 
 from . import dual_lines, probes
-from .builds import build
+from .builds import build, resume
 from .checks import checked, complete_line
 from .command_line import Refused, asked
 from .files import contents_of, show
 from .fractions import fractions_text
 from .lyndon import NoInverse
+from .migrations import ReadFailed, migrate
 from .relations import listing, name_text
 from .samples import sample_line, sample_lines
 from .tables import Broken, reduced_rows, row_text, table
@@ -52,10 +53,10 @@ def reduce(params):
     return partial(made.reply, reduced)
 
 
-def built(name, params):
-    """The line of `build`."""
+def built(command, name, params):
+    """The line of `build` or `resume`."""
     try:
-        return build(name, params)
+        return command(name, params)
     except (NoInverse, Broken) as fault:
         raise refusal(fault)
 
@@ -73,7 +74,7 @@ def with_file(name, contents):
     return partial(made.reply, reduced, text_of=row_text if name == "rewrite" else partial(fractions_text, made.modulus))
 
 
-def work(name, values):
+def work(name, values, read):
     """What a command does: a function that replies to each line, or the lines that are written."""
     if name == "dual":
         return partial(dual_lines.reply_of, values[0])
@@ -81,19 +82,23 @@ def work(name, values):
         return ["%d %s" % (i, name_text(r)) for i, r in enumerate(listing(*values))]
     if name == "reduce":
         return reduce(values)
-    if name == "build":
-        return [built(*values)]
+    if name in ("build", "resume"):
+        return [built(build if name == "build" else resume, *values)]
+    if name == "migrate":
+        return [migrate(*values, read)]
     if name in ("show", "check", "rewrite", "rational"):
         return with_file(name, contents_of(values[0]))
     return [sample(*values)] if name == "sample" else probe(*values)
 
 
-def status_and_work(words):
+def status_and_work(words, read):
     """A status, and a function that replies to each line or the lines that are written."""
     try:
-        return DONE, work(*asked(words))
+        return DONE, work(*asked(words), read)
     except Refused as refused:
         return refused.args[0], [refused.args[1]]
+    except ReadFailed:
+        return READ_FAULT, []
     except OSError:
         return DISK_FAULT, []
 
@@ -110,8 +115,8 @@ def answers(reply, lines):
 
 
 def whole_run(words, read):
-    """The status and the bytes that are written. The bytes of standard input are read where lines are replied to; `read` may raise OSError."""
-    status, done = status_and_work(words)
+    """The status and the bytes that are written. The bytes of standard input are read where lines are replied to or an old file is copied; `read` may raise OSError."""
+    status, done = status_and_work(words, read)
     if not callable(done):
         return status, "".join(line + "\n" for line in done).encode()
     try:

@@ -49,7 +49,11 @@ class Elimination:
         if gcd(rest[lead], self.modulus) != 1:
             raise Broken(rest[lead], number)
         inverse = pow(rest[lead], -1, self.modulus)
-        forward = {column: residue * inverse % self.modulus for column, residue in rest.items()}
+        self.keep(number, {column: residue * inverse % self.modulus for column, residue in rest.items()})
+
+    def keep(self, number, forward):
+        """Keeps a forward row, which leads with 1 in a column where all before it are zero, and is zero where they lead."""
+        lead = min(forward)
         for other in self.reduced.values():
             if lead in other:
                 add_scaled(self.modulus, other, -other[lead], forward)
