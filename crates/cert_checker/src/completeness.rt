@@ -84,8 +84,10 @@ fn listed<R: Ring>(alloc: Global, table: &LyndonTable<R>) -> Result<Vec<RelName>
     listing(alloc, columns.weight(), columns.depth())
 }
 
-/// The least row that is not what its combination gives, None where each is.
-fn bad_row<R: Ring>(
+/// The least row that is not what its combination of listed relations gives, `None` where each is.
+///
+/// `names` are those of the table's listing, and the combinations have their numbers. Memory may be wanting.
+pub fn bad_row<R: Ring>(
     alloc: Global,
     table: &LyndonTable<R>,
     names: &[RelName],
