@@ -1,30 +1,24 @@
--- The final pages: what is made for their rows is what is recorded for them, so they are the pages of the work.
-use Rattle.std.specs.Prelude.{◌≡◌, ℕ, suc, ◌+◌, ◌-◌, ◌*◌, ◌/◌, ◌%◌, ◌<◌, ◌≤◌, min, Bool, true, Option, Some, None, IfSome, List, [], length, take, slice_get, get_or}
-use Rattle.std.specs.List.{AllByRecursion}
+-- The combinations that are made for final rows are those that the work records for them.
+use Rattle.std.specs.Prelude.{◌≡◌, ℕ, suc, ◌+◌, ◌-◌, ◌*◌, ◌/◌, ◌%◌, ◌<◌, ◌≤◌, Bool, true, Option, Some, None, IfSome, List, [], length, take, slice_get, get_or}
 use Rattle.std.proofs.Common.{refl, sym, ◌∙◌, ap, subst, arith}
-use Rattle.std.proofs.lemmas.Option.{slice_get_within}
 use Rattle.outside_io.specs.Traces.{Trace}
 use Rattle.linear_model.specs.Rows.{combination, SameRow}
 use Rattle.column_order.specs.Columns.{ColumnList}
 use Rattle.echelon.specs.Lists.{entries_of, row_at, lead_at}
 use Rattle.echelon.specs.Offers.{used_at}
-use Rattle.echelon.specs.States.{AllIns}
 use Rattle.table_model.specs.ListedSpan.{count_of}
-use Rattle.page_codec.specs.declared.parts.FinalEntry.{FinalEntry}
 use Rattle.page_codec.specs.declared.page.Page.{Page}
 use Rattle.page_codec.specs.declared.page.Page.TheVariants.{Done}
 use Rattle.page_codec.specs.Places.{block_count}
-use Rattle.page_codec.specs.Bounds.{IsPage}
 use Rattle.page_file.specs.Files.{IsSealed}
 use Rattle.page_file.specs.Notes.{Notes, Suits}
 use Rattle.page_file.proofs.Reading.{sealed_unique}
-use Rattle.file_model.specs.Pages.{IsPairs, IsWritten, IsRecorded, IsFinalBlock, final_page}
+use Rattle.file_model.specs.Pages.{IsRecorded}
 use Rattle.file_model.specs.Resuming.{combination_in}
-use Rattle.file_model.proofs.Recorded.{recorded_same, written_recorded}
-use Rattle.file_model.proofs.LastPages.{next_final, next_last}
-use Rattle.table_build.specs.Inner.{Course, AreRows, AreFinals, HaveFinals, HasForward, IsFinalEntryOf, IsPageOfFinals, AllKept, Holds, StandsAt, between, entries_on, sealed_combination}
+use Rattle.file_model.proofs.Recorded.{recorded_same}
+use Rattle.file_model.proofs.LastPages.{next_last}
+use Rattle.table_build.specs.Inner.{Course, AreRows, AreFinals, AreRecorded, HaveFinals, HasForward, AllKept, Holds, StandsAt, between, entries_on, sealed_combination}
 use Rattle.table_build.proofs.AddedInTurn.{alike_below}
-use Rattle.table_build.proofs.WrittenEntries.{written_pairs}
 use Rattle.table_build.proofs.SealedRows.{recorded_later, taken}
 use Rattle.table_build.proofs.SealSteps.{held_sealed, holds_told, told_one}
 use Rattle.table_build.proofs.KeptBlocks.{recorded_at, all_kept, between_at}
@@ -100,47 +94,20 @@ module _ {E : Type 0} (zero_element : E) (has : E → Bool) (value : E → ℕ) 
       all_kept zero_element has value course columns (count_of columns) numbers rows finished.offered blocks (omega arith) cover (λ b j lb lj few. few) has_zero
       value_zero value_injective value_below sealed_rows.rising sealed_rows.in_ring k inside
 
-  module _ (has_zero : has zero_element ≡ true) (value_zero : value zero_element ≡ 0)
-      (value_injective : (a b : E) → has a ≡ true → has b ≡ true → value a ≡ value b → a ≡ b) (value_below : (a : E) → has a ≡ true → value a < m)
-      (k : ℕ) (inside : blocks < k) (place : ℕ) (starts : 64 * place < length finals) (made : List (List (ℕ × E))) (in_ring : AllIns has made)
-      (count : length made ≡ min 64 (length finals - 64 * place))
-      (sums : AreFinalSums m value numbers (64 * place) uses made (take k course.pages)) (es : List FinalEntry) (size : length es ≡ length made)
-      (each : (i : ℕ) (e : FinalEntry) → slice_get es i ≡ Some e
-      → IsFinalEntryOf has zero_element value (get_or finals (64 * place + i) []) (get_or made i []) e) where
-    written_final : (i : ℕ) (e : FinalEntry) → slice_get es i ≡ Some e
-        → IsWritten m columns course.work (count_of columns) (row_at value finals (64 * place + i)) e.row e.combination
-    written_final i e at =
-        let l : i < length made = omega (arith, slice_get_within es i e at, size) in
-        let n : ℕ = count_of columns in
-        let finished = are.finished in
-        let offered = finished.offered in
-        let known = offered.is_course in
-        let table = let t = known.are_columns in t.table in
-        let big : 0 < m = omega (arith, table.modulus) in
-        let entry = each i e at in
-        let row : ℕ → ℕ = row_at value finals (64 * place + i) in
-        let recorded : IsRecorded m columns course.work n row (row_at value made i) =
-        recorded_same m columns course.work n row row (combination (length numbers) (sealed k) (used_at value numbers (get_or uses (64 * place + i) [])))
-        (row_at value made i) (λ q. refl) (λ q. sym (sums i l q)) (final_made k inside (64 * place + i) (omega (arith, l, count))) in
-        written_recorded m columns course.work n row (row_at value made i) e.row e.combination recorded
-        (subst (IsPairs m row) (sym entry.row_is) (written_pairs m zero_element has value has_zero value_zero value_injective value_below
-        (get_or finals (64 * place + i) []) big entry.is_row entry.row_in_ring))
-        (subst (IsPairs m (row_at value made i)) (sym entry.combination_is) (written_pairs m zero_element has value has_zero value_zero value_injective
-        value_below (get_or made i []) big entry.is_combination (in_ring i l)))
-
-    -- so the page is the next one of the work
-    pub next_final_page : slice_get course.pages (1 + blocks + place) ≡ Some (final_page (64 * place) es)
-    next_final_page =
-        let finished = are.finished in
-        let offered = finished.offered in
-        let known = offered.is_course in
-        let block : IsFinalBlock m columns course.work (length finals) (row_at value finals) place es = record {
-          as_many = size ∙ count;
-          rows_are = written_final;
-        } in
-        subst (λ b. slice_get course.pages (1 + b + place) ≡ Some (final_page (64 * place) es)) (sym all_blocks)
-        (next_final course.params columns course.work known.is_work known.are_columns known.converts offered.unbroken (length finals) (lead_at finals)
-        (row_at value finals) finished.reduced course.pages known.are_pages place starts es block)
+  -- what is made of the sealed combinations is recorded for the final rows
+  pub made_recorded : (k : ℕ) → blocks < k → (first : ℕ) (made : List (List (ℕ × E))) → 64 * first + length made ≤ length finals
+      → AreFinalSums m value numbers (64 * first) uses made (take k course.pages) → AreRecorded m value columns course first finals made
+  made_recorded k inside first made fits sums =
+      let finished = are.finished in
+      let offered = finished.offered in
+      record {
+        is_course = offered.is_course;
+        unbroken = offered.unbroken;
+        reduced = finished.reduced;
+        each = λ j l. recorded_same m columns course.work (count_of columns) (row_at value finals (64 * first + j)) (row_at value finals (64 * first + j))
+            (combination (length numbers) (sealed k) (used_at value numbers (get_or uses (64 * first + j) []))) (row_at value made j) (λ q. refl)
+            (λ q. sym (sums j l q)) (final_made k inside (64 * first + j) (omega (arith, l, fits)));
+      }
 
   -- and the last one stands behind the final pages
   pub last_page : (slice_get course.pages (1 + blocks + block_count (length finals)) ≡ Some (Done (length finals)))
@@ -166,15 +133,12 @@ module _ {E : Type 0} (m : ℕ) (zero_element : E) (has : E → Bool) (value : E
   abbrev Own : ℕ → Type 0
   Own x = HaveFinals x value columns course blocks numbers rows finals uses told
 
-  pub final_stands : (k : ℕ) → blocks < k → (place : ℕ) → 64 * place < length finals → (made : List (List (ℕ × E))) (page : Page) → AllIns has made
-      → length made ≡ min 64 (length finals - 64 * place) → IsPageOfFinals has zero_element value place finals made page
-      → AreFinalSums m value numbers (64 * place) uses made (take k course.pages) → slice_get course.pages (1 + blocks + place) ≡ Some page
-  final_stands k inside place starts made page in_ring count page_is sums =
-      subst (λ x. ((a : E) → has a ≡ true → value a < x) → Own x → AreFinalSums x value numbers (64 * place) uses made (take k course.pages)
-      → slice_get course.pages (1 + blocks + place) ≡ Some (final_page (64 * place) page_is.entries)) own_modulus
-      (λ below own sums_are. next_final_page zero_element has value course columns blocks numbers rows finals uses told all_blocks own sealed_rows
-      has_zero value_zero value_injective below k inside place starts made in_ring count sums_are page_is.entries page_is.count page_is.each)
-      value_below are sums ∙ ap Some (sym page_is.page_is)
+  pub sums_recorded : (k : ℕ) → blocks < k → (first : ℕ) (made : List (List (ℕ × E))) → 64 * first + length made ≤ length finals
+      → AreFinalSums m value numbers (64 * first) uses made (take k course.pages) → AreRecorded m value columns course first finals made
+  sums_recorded k inside first made fits sums =
+      subst (λ x. Own x → AreFinalSums x value numbers (64 * first) uses made (take k course.pages) → AreRecorded x value columns course first finals made)
+      own_modulus (λ own sums_are. made_recorded zero_element has value course columns blocks numbers rows finals uses told all_blocks own sealed_rows
+      k inside first made fits sums_are) are sums
 
   pub rows_kept : (k : ℕ) → blocks < k → AllKept m zero_element value blocks numbers rows (take k course.pages)
   rows_kept k inside = subst (λ x. ((a : E) → has a ≡ true → value a < x) → Own x → AllKept x zero_element value blocks numbers rows (take k course.pages))
@@ -208,31 +172,22 @@ module _ {E : Type 0} (m : ℕ) (zero_element : E) (has : E → Bool) (value : E
     pub pages_kept : AllKept m zero_element value blocks numbers rows pages
     pages_kept b done end l run some page at = rows_kept (1 + blocks) (omega arith) b done end l run some page (alike_at b l ∙ at)
 
-    pub page_stands : (place : ℕ) → 64 * place < length finals → (made : List (List (ℕ × E))) (page : Page) → AllIns has made
-        → length made ≡ min 64 (length finals - 64 * place) → IsPageOfFinals has zero_element value place finals made page
-        → AreFinalSums m value numbers (64 * place) uses made pages → slice_get course.pages (1 + blocks + place) ≡ Some page
-    page_stands place starts made page in_ring count page_is sums =
-        final_stands (1 + blocks) (omega arith) place starts made page in_ring count page_is (same_sums (64 * place) made sums)
-
-  -- so it is where the disk tells
-  pub next_final_told : (place : ℕ) → 64 * place < length finals → (made : List (List (ℕ × E))) (page : Page) → AllIns has made
-      → length made ≡ min 64 (length finals - 64 * place) → IsPageOfFinals has zero_element value place finals made page → (notes : Notes) (o : Option Trace)
+  -- so they are where the disk tells
+  pub group_told : (first : ℕ) (made : List (List (ℕ × E))) → 64 * first + length made ≤ length finals → (notes : Notes) (o : Option Trace)
       → IfSome o (λ t. Suits notes t.now.contents) → HasForward course.pages blocks o
-      → IfSome o (λ t. (pages : List Page) → IsSealed pages t.now.contents → AreFinalSums m value numbers (64 * place) uses made pages)
-      → IfSome o (λ t. slice_get course.pages (1 + blocks + place) ≡ Some page)
-  next_final_told place starts made page in_ring count page_is notes None suits forward sums = tt
-  next_final_told place starts made page in_ring count page_is notes (Some t) suits forward sums =
+      → IfSome o (λ t. (pages : List Page) → IsSealed pages t.now.contents → AreFinalSums m value numbers (64 * first) uses made pages)
+      → IfSome o (λ t. AreRecorded m value columns course first finals made)
+  group_told first made fits notes None suits forward sums = tt
+  group_told first made fits notes (Some t) suits forward sums =
       let reads = suits.reads in
-      page_stands suits.pages (forward suits.pages reads.sealed) place starts made page in_ring count page_is (sums suits.pages reads.sealed)
+      sums_recorded (1 + blocks) (omega arith) first made fits
+      (same_sums suits.pages (forward suits.pages reads.sealed) (64 * first) made (sums suits.pages reads.sealed))
 
   pub finals_untold : (notes : Notes) (o : Option Trace) → IfSome o (λ t. Suits notes t.now.contents) → HasForward course.pages blocks o
       → IfSome o (λ t. (pages : List Page) → IsSealed pages t.now.contents → ¬ (AllKept m zero_element value blocks numbers rows pages)) → o ≡ None
   finals_untold notes None suits forward other = refl
   finals_untold notes (Some t) suits forward other = let reads = suits.reads in
       absurd (other suits.pages reads.sealed (pages_kept suits.pages (forward suits.pages reads.sealed)))
-
-  pub all_pages : AllByRecursion IsPage course.pages
-  all_pages = let finished = are.finished in let offered = finished.offered in let known = offered.is_course in known.each
 
 -- sums that begin with nothing
 pub final_sums : {E : Type 0} (m : ℕ) (value : E → ℕ) (numbers : List ℕ) (first end : ℕ) (uses starts made : List (List (ℕ × E))) (pages : List Page)

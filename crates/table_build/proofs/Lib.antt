@@ -23,6 +23,7 @@ mod SealSteps
 mod RereadPages
 mod SealedSums
 mod FinalSums
+mod FinalPages
 mod WorkEndings
 mod Courses
 mod BuildEndings

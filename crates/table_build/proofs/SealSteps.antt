@@ -136,6 +136,11 @@ pub told_always : (X : Type 0) (o : Option Trace) → X → IfSome o (λ t. X)
 told_always X None x = tt
 told_always X (Some t) x = x
 
+-- what is known where a disk tells is known where it still does
+pub told_on : (X : Type 0) (old new : Option Trace) → (old ≡ None → new ≡ None) → IfSome old (λ t. X) → IfSome new (λ t. X)
+told_on X None new silent x = subst (λ o. IfSome o (λ t. X)) (sym (silent refl)) tt
+told_on X (Some t) new silent x = told_always X new x
+
 -- what stands there where a call that seals the next page is done
 pub holds_where_done : {T F : Type 0} (pages : List Page) (k : ℕ) (page : Page) (old new : Option Trace) (r : Result T F)
     → ((ps : List Page) (i : ℕ) → slice_get ps i ≡ Some page → Holds ps i old → Keeps ps i old new) → Holds pages k old

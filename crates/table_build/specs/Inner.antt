@@ -10,7 +10,7 @@ use Rattle.relation_list.specs.declared.names.RelName.{RelName}
 use Rattle.relation_list.specs.Listings.{listing_of}
 use Rattle.sparse_rows.specs.Entries.{IsRow, AllIn}
 use Rattle.echelon.specs.Lists.{row_at, lead_at, AreForward}
-use Rattle.echelon.specs.States.{Elimination}
+use Rattle.echelon.specs.States.{AllIns, Elimination}
 use Rattle.echelon.specs.Offers.{used_at}
 use Rattle.lyndon_polys.specs.Tables.{RingTable}
 use Rattle.table_model.specs.Conversion.{Converts, IsCols}
@@ -276,6 +276,27 @@ pub record AreFinals {E : Type 0} (m : ℕ) (value : E → ℕ) (columns : Colum
   pub holds : Holds course.pages k told
   pub finished : HasFinished m value columns course numbers rows finals
   pub made : AreMade m value columns course.work numbers rows finals uses
+
+-- combinations for the final rows of the places from first to below end, of so many final rows
+pub record IsGroup {E : Type 0} (has : E → Bool) (count first end : ℕ) (combinations : List (List (ℕ × E))) : Type 0 where
+  pub within : end ≤ block_count count
+  pub size : length combinations ≡ min (64 * end) count - 64 * first
+  pub in_ring : AllIns has combinations
+
+-- the final rows of the work, which is not broken, are these, and these combinations are recorded for those from 64 times first on
+pub record AreRecorded {E : Type 0} (m : ℕ) (value : E → ℕ) (columns : ColumnList) (course : Course) (first : ℕ) (finals combinations : List (List (ℕ × E)))
+    : Type 0 where
+  pub is_course : IsCourse m columns course
+  pub unbroken : IsUnbroken m columns course.work.sums (count_of columns)
+  pub reduced : IsReducedRows m columns course.work.sums (count_of columns) (length finals) (lead_at finals) (row_at value finals)
+  pub each : (j : ℕ) → j < length combinations
+      → IsRecorded m columns course.work (count_of columns) (row_at value finals (64 * first + j)) (row_at value combinations j)
+
+-- so it is where the disk tells, and so many pages stand there
+pub record AreReady {E : Type 0} (m : ℕ) (value : E → ℕ) (columns : ColumnList) (course : Course) (k first : ℕ) (finals combinations : List (List (ℕ × E)))
+    (told : Option Trace) : Type 0 where
+  pub holds : Holds course.pages k told
+  pub recorded : IfSome told (λ t. AreRecorded m value columns course first finals combinations)
 
 -- the work is not broken, its reduced rows are so many, and all its pages stand there
 pub record IsEnd (m : ℕ) (columns : ColumnList) (course : Course) (count : ℕ) (told : Option Trace) : Type 0 where

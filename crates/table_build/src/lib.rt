@@ -7,6 +7,7 @@ mod columns;
 mod comparing;
 mod fault;
 mod finals;
+mod groups;
 mod offering;
 mod opening;
 mod rereading;

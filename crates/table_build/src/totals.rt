@@ -14,7 +14,7 @@ use sparse_rows::Combination;
 use std::alloc::{AllocError, Global};
 
 // A number above all of these.
-fn bound_of(numbers: &[u32]) -> usize
+pub(crate) fn bound_of(numbers: &[u32]) -> usize
     requires rising { AreRising numbers.now }
     ensures above { (i : ℕ) → i < length numbers.now → get_or numbers.now i 0 < result }
     ensures few { result ≤ 2 ^ 32 }

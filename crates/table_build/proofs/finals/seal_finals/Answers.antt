@@ -6,19 +6,22 @@ use Rattle.table_build.specs.Inner.{IsReadyAt, Holds}
 use Rattle.table_build.proofs.Keepings.{keeps_same, keeps_then}
 use Rattle.table_build.proofs.SealSteps.{told_always, keeps_next, holds_where_done}
 use Rattle.table_build.proofs.FinalSums.{finals_have, last_stands}
+use Rattle.table_build.proofs.FinalPages.{finals_on}
 use Rattle.table_build.proofs.finals.seal_finals.Goals as goal
 
 pub returns-in-Err-clause-keeps : goal.returns-in-Err-clause-keeps
 returns-in-Err-clause-keeps g c = λ columns course all are.
     keeps_then course.pages (1 + c.args.blocks + c.args.first) (1 + c.args.blocks + c.loop-place.place) (g.D.Disk.trace c.args.disk.now)
     (g.D.Disk.trace c.loop-place.disk)
-    (g.D.Disk.trace c.seal_final.new.disk) (omega arith) (c.loop-place.invariant.keeps columns course all are)
-    (c.seal_final.ensures.keeps columns course all (c.loop-place.invariant.are columns course all are))
+    (g.D.Disk.trace c.seal_group.new.disk) (omega (arith, c.loop-place.invariant.from)) (c.loop-place.invariant.keeps columns course all are)
+    (c.seal_group.ensures.keeps columns course all (c.loop-place.invariant.are columns course all are))
 
 pub loop-place-init : goal.loop-place-init
 loop-place-init g c =
     let told = g.D.Disk.trace c.args.disk.now in
     record {
+      from = omega arith;
+      within = omega (arith, c.if-first-end.false);
       ready = c.requires.ready;
       suits = c.requires.suits;
       keeps = λ columns course all are. keeps_same course.pages (1 + c.args.blocks + c.args.first) told told refl;
@@ -29,26 +32,29 @@ loop-place-init g c =
 
 pub loop-place-preserved : goal.loop-place-preserved
 loop-place-preserved g c =
+    let ring = c.args.ring.now in
     let blocks = c.args.blocks in
     let place = c.loop-place.place in
-    let now = g.D.Disk.trace c.seal_final.new.disk in
-    let step : 2 + blocks + place ≡ 1 + blocks + (place + 1) = omega arith in
+    let next = c.loop-place.place + c.min.result in
+    let old = g.D.Disk.trace c.args.disk.now in
+    let mid = g.D.Disk.trace c.loop-place.disk in
+    let now = g.D.Disk.trace c.seal_group.new.disk in
     record {
-      ready = subst (λ k. IsReadyAt k c.seal_final.new.file) step c.in_default.ensures.ready;
+      from = omega (arith, c.loop-place.invariant.from);
+      within = omega (arith, c.min.ensures, c.loop-place.invariant.within);
+      ready = c.in_default.ensures.ready;
       suits = c.in_default.ensures.suits;
       keeps = λ columns course all are.
-          keeps_then course.pages (1 + blocks + c.args.first) (1 + blocks + place) (g.D.Disk.trace c.args.disk.now) (g.D.Disk.trace c.loop-place.disk) now
-          (omega arith)
+          keeps_then course.pages (1 + blocks + c.args.first) (1 + blocks + place) old mid now (omega (arith, c.loop-place.invariant.from))
           (c.loop-place.invariant.keeps columns course all are)
-          (c.seal_final.ensures.keeps columns course all (c.loop-place.invariant.are columns course all are));
-      are = λ columns course all are. record {
-        holds = subst (λ k. Holds course.pages k now) step (c.in_default.ensures.holds columns course all
-            (c.loop-place.invariant.are columns course all are));
-        finished = are.finished;
-        made = are.made;
-      };
-      untold = λ none. c.seal_final.ensures.untold (c.loop-place.invariant.untold none);
-      faults = omega (arith, c.loop-place.invariant.faults, c.seal_final.ensures.faults);
+          (c.seal_group.ensures.keeps columns course all (c.loop-place.invariant.are columns course all are));
+      are = λ columns course all are.
+          let was = c.loop-place.invariant.are columns course all are in
+          finals_on (g.R.Ring.modulus ring) (g.R.Ring.value ring) columns course (1 + blocks + place) (1 + blocks + next)
+          c.args.sealed.now.numbers.items c.args.sealed.now.rows.items c.args.finals.now.rows.rows c.args.finals.now.uses.items mid now was
+          (c.in_default.ensures.holds columns course all was);
+      untold = λ none. c.seal_group.ensures.untold (c.loop-place.invariant.untold none);
+      faults = omega (arith, c.loop-place.invariant.faults, c.seal_group.ensures.faults);
     }
 
 pub returns-clause-ready : goal.returns-clause-ready
@@ -60,7 +66,7 @@ returns-clause-ready g c =
       arith,
       c.len-count.ensures,
       c.loop-place-test.false,
-      c.loop-place.auto.place-end,
+      c.loop-place.invariant.within,
       c.requires.from,
     ) in e)
     (c.seal.ensures.ready k c.loop-place.invariant.ready)
@@ -83,11 +89,12 @@ returns-clause-keeps g c = λ columns course all are.
     (g.met.R.Ring.value_below ring) course columns blocks c.args.sealed.now.numbers.items c.args.sealed.now.rows.items finals
     c.args.finals.now.uses.items old all (finals_have m value columns course blocks (1 + blocks + c.args.first) c.args.sealed.now.numbers.items
     c.args.sealed.now.rows.items finals c.args.finals.now.uses.items old (omega arith) are) c.requires.rows in
-    let k_is : k ≡ 1 + blocks + (length finals + 63) / 64 = omega (arith, count, c.loop-place-test.false, c.loop-place.auto.place-end, c.requires.from) in
+    let k_is : k ≡ 1 + blocks + (length finals + 63) / 64 = omega (arith, count, c.loop-place-test.false, c.loop-place.invariant.within, c.requires.from) in
     let at : slice_get course.pages k ≡ Some last = ap (slice_get course.pages) k_is ∙ there.0 ∙ ap (λ n. Some (Done n)) (sym count) in
     let next : IfSome mid (λ t. slice_get course.pages k ≡ Some last) = told_always (slice_get course.pages k ≡ Some last) mid at in
     let mid_are = c.loop-place.invariant.are columns course all are in
-    keeps_then course.pages (1 + blocks + c.args.first) k old mid now (omega arith) (c.loop-place.invariant.keeps columns course all are)
+    keeps_then course.pages (1 + blocks + c.args.first) k old mid now (omega (arith, c.loop-place.invariant.from))
+    (c.loop-place.invariant.keeps columns course all are)
     (keeps_next course.pages k last mid now c.seal.ensures.keeps mid_are.holds next)
 
 pub returns-clause-holds : goal.returns-clause-holds
@@ -108,7 +115,7 @@ returns-clause-holds g c = λ columns course all are.
     (g.met.R.Ring.value_below ring) course columns blocks c.args.sealed.now.numbers.items c.args.sealed.now.rows.items finals
     c.args.finals.now.uses.items old all (finals_have m value columns course blocks (1 + blocks + c.args.first) c.args.sealed.now.numbers.items
     c.args.sealed.now.rows.items finals c.args.finals.now.uses.items old (omega arith) are) c.requires.rows in
-    let k_is : k ≡ 1 + blocks + (length finals + 63) / 64 = omega (arith, count, c.loop-place-test.false, c.loop-place.auto.place-end, c.requires.from) in
+    let k_is : k ≡ 1 + blocks + (length finals + 63) / 64 = omega (arith, count, c.loop-place-test.false, c.loop-place.invariant.within, c.requires.from) in
     let at : slice_get course.pages k ≡ Some last = ap (slice_get course.pages) k_is ∙ there.0 ∙ ap (λ n. Some (Done n)) (sym count) in
     let next : IfSome mid (λ t. slice_get course.pages k ≡ Some last) = told_always (slice_get course.pages k ≡ Some last) mid at in
     let mid_are = c.loop-place.invariant.are columns course all are in

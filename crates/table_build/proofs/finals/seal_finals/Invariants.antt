@@ -1,4 +1,4 @@
-use Rattle.std.proofs.Common.{◌≡◌, ◌+◌, ◌≤◌}
+use Rattle.std.proofs.Common.{◌≡◌, ◌+◌, ◌-◌, ◌≤◌}
 use Rattle.std.specs.Prelude.{IfSome, None}
 use Rattle.column_order.specs.Columns.{ColumnList}
 use Rattle.page_codec.specs.Places.{block_count}
@@ -9,18 +9,22 @@ use Rattle.table_build.proofs.finals.seal_finals.Given as goal
 
 abbrev pub invariant-loop-place : goal.invariant-loop-place
 invariant-loop-place g l = record {
+  from : l.first ≤ l.place;
+  within : l.place ≤ l.end;
   ready : IsReadyAt (1 + l.blocks + l.place) l.file;
   suits : IfSome (g.D.Disk.trace l.disk) (λ t. Suits l.file t.now.contents);
   keeps : (columns : ColumnList) (course : Course) → l.blocks ≡ block_count (count_of columns)
       → AreFinals (g.R.Ring.modulus l.ring) (g.R.Ring.value l.ring) columns course (1 + l.blocks + l.first) l.sealed.numbers.items l.sealed.rows.items
-      l.finals.rows.rows
-      l.finals.uses.items (g.D.Disk.trace l.fn.disk) → Keeps course.pages (1 + l.blocks + l.first) (g.D.Disk.trace l.fn.disk) (g.D.Disk.trace l.disk);
+      l.finals.rows.rows l.finals.uses.items (g.D.Disk.trace l.fn.disk)
+      → Keeps course.pages (1 + l.blocks + l.first) (g.D.Disk.trace l.fn.disk) (g.D.Disk.trace l.disk);
   are : (columns : ColumnList) (course : Course) → l.blocks ≡ block_count (count_of columns)
       → AreFinals (g.R.Ring.modulus l.ring) (g.R.Ring.value l.ring) columns course (1 + l.blocks + l.first) l.sealed.numbers.items l.sealed.rows.items
-      l.finals.rows.rows
-      l.finals.uses.items (g.D.Disk.trace l.fn.disk)
+      l.finals.rows.rows l.finals.uses.items (g.D.Disk.trace l.fn.disk)
       → AreFinals (g.R.Ring.modulus l.ring) (g.R.Ring.value l.ring) columns course (1 + l.blocks + l.place) l.sealed.numbers.items l.sealed.rows.items
       l.finals.rows.rows l.finals.uses.items (g.D.Disk.trace l.disk);
   untold : g.D.Disk.trace l.fn.disk ≡ None → g.D.Disk.trace l.disk ≡ None;
   faults : g.D.Disk.faults l.fn.disk ≤ g.D.Disk.faults l.disk;
 }
+
+abbrev pub decreases-loop-place : goal.decreases-loop-place
+decreases-loop-place g l = l.end - l.place

@@ -1,23 +1,26 @@
-use Rattle.std.proofs.Common.{◌≡◌, ◌+◌, ◌≤◌, length}
+use Rattle.std.proofs.Common.{◌≡◌, ◌+◌, ◌-◌, ◌≤◌}
 use Rattle.std.specs.Prelude.{IsTrue, IfSome}
 use Rattle.column_order.specs.Columns.{ColumnList}
 use Rattle.page_codec.specs.Places.{block_count}
 use Rattle.page_file.specs.Notes.{Suits, count_of as page_count}
 use Rattle.table_model.specs.ListedSpan.{count_of}
-use Rattle.table_build.specs.Inner.{Course, HaveFinals, IfSealed}
-use Rattle.table_build.proofs.Comparisons.{AreBehind}
-use Rattle.table_build.proofs.comparing.compare_pages.Given as goal
+use Rattle.table_build.specs.Inner.{Course, AreFirstUpTo, HaveFinals}
+use Rattle.table_build.proofs.comparing.compare_finals.Given as goal
 
 abbrev pub invariant-loop-place : goal.invariant-loop-place
 invariant-loop-place g l = record {
+  within : l.place ≤ l.end;
   live : IsTrue l.file.is_live;
   suits : IfSome (g.D.Disk.trace l.disk) (λ t. Suits l.file t.now.contents);
   count : page_count l.file ≡ page_count l.fn.file;
   same : l.file ≡ l.fn.file;
   disk : g.D.Disk.trace l.disk ≡ g.D.Disk.trace l.fn.disk;
-  few : l.place ≤ block_count (length l.finals.rows.rows) + 1;
-  behind : (columns : ColumnList) (course : Course) → l.blocks ≡ block_count (count_of columns)
+  first : (columns : ColumnList) (course : Course) → l.blocks ≡ block_count (count_of columns)
       → HaveFinals (g.R.Ring.modulus l.ring) (g.R.Ring.value l.ring) columns course l.blocks l.kept.numbers.items l.kept.rows.items l.finals.rows.rows
-      l.finals.uses.items (g.D.Disk.trace l.fn.disk) → IfSealed (AreBehind course.pages l.blocks l.place) (g.D.Disk.trace l.fn.disk);
+      l.finals.uses.items (g.D.Disk.trace l.fn.disk)
+      → AreFirstUpTo course.pages (1 + l.blocks) (g.D.Disk.trace l.fn.disk) → AreFirstUpTo course.pages (1 + l.blocks + l.place) (g.D.Disk.trace l.fn.disk);
   faults : g.D.Disk.faults l.fn.disk ≤ g.D.Disk.faults l.disk;
 }
+
+abbrev pub decreases-loop-place : goal.decreases-loop-place
+decreases-loop-place g l = l.end - l.place

@@ -5,7 +5,7 @@ use Rattle.page_codec.specs.declared.parts.FinalEntry.{FinalEntry}
 use Rattle.page_rows.specs.Written.{written}
 use Rattle.table_build.specs.Inner.{IsFinalEntryOf}
 use Rattle.table_build.proofs.AddedInTurn.{each_pushed}
-use Rattle.table_build.proofs.finals.final_page.Goals as goal
+use Rattle.table_build.proofs.groups.final_page.Goals as goal
 
 pub loop-i-preserved : goal.loop-i-preserved
 loop-i-preserved g c =

@@ -1,7 +1,7 @@
 use Rattle.std.proofs.Common.{◌≡◌, ℕ, ◌+◌, ◌*◌, Some, [], length, get_or, slice_get}
 use Rattle.page_codec.specs.declared.parts.FinalEntry.{FinalEntry}
 use Rattle.table_build.specs.Inner.{IsFinalEntryOf}
-use Rattle.table_build.proofs.finals.final_page.Given as goal
+use Rattle.table_build.proofs.groups.final_page.Given as goal
 
 abbrev pub invariant-loop-i : goal.invariant-loop-i
 invariant-loop-i g l = record {

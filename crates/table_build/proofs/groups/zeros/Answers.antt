@@ -1,6 +1,6 @@
 use Rattle.std.proofs.Common.{◌≡◌, [], ◌∷◌, ◌++◌, get_or, ◌∙◌, ap, arith}
 use Rattle.table_build.proofs.SealSteps.{zeros_more}
-use Rattle.table_build.proofs.finals.zeros.Goals as goal
+use Rattle.table_build.proofs.groups.zeros.Goals as goal
 
 pub loop-alloc-preserved : goal.loop-alloc-preserved
 loop-alloc-preserved g c =
