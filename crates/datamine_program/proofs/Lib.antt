@@ -1,14 +1,11 @@
-pub mod WrittenLines
 pub mod Tables
 pub mod Samples
 pub mod Runs
 pub mod Probes
 pub mod Asking
-pub mod ShownTexts
 pub mod ShownPages
 pub mod FileRuns
 pub mod JudgedFiles
-pub mod CheckedTexts
 pub mod WrittenFigures
 pub mod Building
 pub mod GoingOn

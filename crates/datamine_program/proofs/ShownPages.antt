@@ -35,7 +35,8 @@ use Rattle.whole_runs.specs.FileWorks.IsShow.{shown}
 use Rattle.whole_runs.specs.Works.Work.{Writes}
 use Rattle.datamine_program.specs.declared.table_file.ShowFault.{ShowFault}
 use Rattle.datamine_program.specs.declared.table_file.ShowFault.TheVariants as shows
-use Rattle.datamine_program.specs.Inner.{reading_fault, IsBehind, IsPageFault, IsShowFault, ShowsAll, head_text, without_header}
+use Rattle.datamine_program.specs.Inner.{reading_fault, IsBehind, IsPageFault, IsShowFault, ShowsAll, without_header}
+use Rattle.table_texts.specs.Texts.{head_text}
 
 module _ (before now : ℕ) (told : Option Trace) where
   -- looking at the file failed

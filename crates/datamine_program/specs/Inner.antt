@@ -63,15 +63,6 @@ use Rattle.table_checker.specs.Checks.{IsRowOf, IsRefusal}
 use Rattle.truncated_sums.specs.declared.fault.SumFault.{SumFault}
 use Rattle.truncated_sums.specs.declared.fault.SumFault.TheVariants as sums
 
--- the numbers of an index with commas between them, one before them where they are not the first, and what ends the line of a word
-abbrev pub numbers_text : Bool → List ℕ → List ℕ
-numbers_text first [] = codes ")" ++ 10 ∷ []
-numbers_text first (k ∷ ks) = part_text first k ++ numbers_text false ks
-
--- what the line of a word has behind the residue
-abbrev pub at_word : List Letter → List ℕ
-at_word word = codes " at word z(" ++ numbers_text true (index_of word)
-
 -- the columns of parameters, whose shuffles convert and whose work is broken nowhere, and the reduced rows of all listed relations
 pub record IsTableMade (params : Params) (columns : ColumnList) (count : ℕ) (lead : ℕ → ℕ) (rows : ℕ → ℕ → ℕ) : Type 0 where
   pub are_columns : IsTableOf params columns
@@ -143,23 +134,6 @@ pub record IsRun (asked : Asked) (contents left left_new taken taken_new : Optio
   pub usage : ¬ (result ≡ status.Usage)
   pub params : ¬ (result ≡ status.Params)
   pub disk_fault : result ≡ status.DiskFault → NamesFile asked
-
--- what stands before a preferred word, the first or another
-abbrev pub word_gap : Bool → List ℕ
-word_gap true = 32 ∷ []
-word_gap false = 43 ∷ []
-
--- the lines of a header and of so many pages
-abbrev pub head_text : Params → ℕ → List ℕ
-head_text params pages = codes "table " ++ (line (params_text params) ++ (codes "pages " ++ line (decimal pages)))
-
--- the entry's row has columns below n and residues below m
-pub record IsShowable (n m : ℕ) (e : FinalEntry) : Type 0 where
-  pub pairs : IsRowData e.row
-  pub below : AreBelow n m e.row
-
-abbrev pub CanShow : ℕ → ℕ → Page → Type 0
-CanShow n m page = AllByRecursion (IsShowable n m) (finals_of_page page)
 
 -- the walk stands behind some pages
 abbrev pub IsBehind : WalkAt → List Page → Type 0

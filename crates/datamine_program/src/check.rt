@@ -13,7 +13,6 @@ use crate::check_refusals::refuse_check;
 use crate::file_refusals::refuse_file;
 use crate::table_check::checked_table;
 use crate::table_file::open_table;
-use crate::texts::complete_text;
 use crate::writing::write_and_end;
 use odd_residues::ResidueRing;
 use outside_io::{Disk, Sink};
@@ -21,6 +20,7 @@ use page_codec::Params;
 use page_file::PageFile;
 use residues::Ring;
 use std::alloc::Global;
+use table_texts::complete_text;
 use whole_runs::Status;
 
 // Tells that a table is complete, with how many relations and rows it has.

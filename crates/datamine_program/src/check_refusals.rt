@@ -16,12 +16,12 @@ ghost use Rattle.datamine_program.specs.Inner.{JudgesFile, CanTell, IsCheckFault
 
 use crate::file_refusals::refuse_number;
 use crate::no_inverse::refuse_word;
-use crate::texts::missing_text;
 use crate::writing::write_and_end;
 use outside_io::Sink;
 use page_codec::{Params, RowData};
 use std::alloc::Global;
 use table_checker::CheckFault;
+use table_texts::missing_text;
 use whole_runs::Status;
 
 // Tells what the final rows of the table of the parameters leave of a relation.

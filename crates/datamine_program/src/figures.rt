@@ -7,10 +7,10 @@ ghost use Rattle.whole_runs.specs.FileTexts.{figures_line};
 ghost use Rattle.whole_runs.specs.Outcomes.{Has};
 ghost use Rattle.whole_runs.specs.Works.Work.{Writes};
 
-use crate::pieces::{write_begun, write_two};
 use outside_io::{Failed, Sink, write_all};
 use table_build::Built;
 use whole_runs::Status;
+use written_lines::{write_begun, write_two};
 
 // Writes a text and a number, and behind them a second text and a number.
 fn write_counts<K: Sink>(

@@ -8,10 +8,10 @@ ghost use Rattle.whole_runs.specs.Outcomes.{Has, Outcome, contents_of};
 ghost use Rattle.whole_runs.specs.Works.Work.{Writes};
 ghost use Rattle.datamine_program.specs.Inner.{ReadsTable, IsShowFault};
 
-use crate::pieces::write_begun;
 use crate::table_file::ShowFault;
 use outside_io::{Failed, Sink, write_all};
 use whole_runs::Status;
+use written_lines::write_begun;
 
 // Writes a text and a number, and behind them a second text.
 fn write_around<K: Sink>(

@@ -20,7 +20,6 @@ mod lines;
 mod list;
 mod migrate;
 mod no_inverse;
-mod pieces;
 mod probe;
 mod rational;
 mod ready;
@@ -33,7 +32,6 @@ mod show;
 mod table;
 mod table_check;
 mod table_file;
-mod texts;
 mod writing;
 
 pub use commands::run;

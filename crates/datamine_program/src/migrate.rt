@@ -11,11 +11,11 @@ ghost use Rattle.datamine_program.specs.Inner.{EndsAs, EndsCopy, copy_end, IsCop
 ghost use Rattle.datamine_program.specs.Leaving.{MigrateLeaves};
 
 use crate::file_refusals::refuse_number;
-use crate::texts::migrated_text;
 use crate::writing::write_and_end;
 use outside_io::{Disk, Sink, Source};
 use std::alloc::Global;
 use table_migration::{MigrateFault, Migrated, migrate};
+use table_texts::migrated_text;
 use whole_runs::Status;
 
 // Tells what was copied.

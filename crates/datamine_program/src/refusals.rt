@@ -1,42 +1,16 @@
 //! The lines that refuse words or parameters. They take no memory, so that its want never comes in their place.
-ghost use Rattle.std.specs.Prelude.{◌≡◌, ◌⊎◌, ◌++◌, ◌∷◌, [], ℕ, List, Option, OnOk, OnErr, Err, decimal};
-ghost use Rattle.outside_io.specs.Causes.{HasCause, Rose};
-ghost use Rattle.outside_io.specs.Told.{after_told, AppendsFront};
+ghost use Rattle.std.specs.Prelude.{◌≡◌, ◌⊎◌, ◌++◌, ◌∷◌, [], ℕ, List, Option, Err, decimal};
+ghost use Rattle.outside_io.specs.Causes.{Rose};
 ghost use Rattle.whole_runs.specs.Outcomes.{Has, Outcome, FailsTest};
 ghost use Rattle.whole_runs.specs.Statuses.{ComesFor};
 ghost use Rattle.whole_runs.specs.Texts.{usage_line, param_line};
 ghost use Rattle.whole_runs.specs.Works.Work.{Writes};
 
-use crate::pieces::{write_number, write_two};
 use crate::writing::write_and_end;
-use outside_io::{Failed, Sink, write_all};
+use outside_io::Sink;
 use page_codec::ParamFault;
 use whole_runs::{Status, WordsFault};
-
-// Writes the line that refuses a parameter.
-fn write_param<K: Sink>(sink: &mut K, fault: ParamFault) -> Result<(), Failed>
-    ensures ok { OnOk result (K.taken sink.new ≡ after_told (K.taken sink.old) (param_line fault)) }
-    ensures err { OnErr result (AppendsFront (K.taken sink.old) (K.taken sink.new) (param_line fault)) }
-    ensures cause { HasCause (K.faults sink.old) (K.faults sink.new) result }
-{
-    match fault {
-        ParamFault::Weight(weight) => write_number(sink, b"bad parameter: weight ", weight),
-        ParamFault::Depth(depth) => write_number(sink, b"bad parameter: depth ", depth),
-        ParamFault::Modulus(modulus) => write_number(sink, b"bad parameter: modulus ", modulus),
-        ParamFault::NotBelow { weight, modulus } => write_two(
-            sink,
-            b"bad parameter: weight ",
-            weight,
-            b" not below modulus ",
-            modulus,
-        ),
-        ParamFault::Order => write_all(sink, b"bad parameter: order\n"),
-        ParamFault::Preferred(piece) => {
-            write_number(sink, b"bad parameter: preferred ", piece as u64)
-        }
-        ParamFault::Columns(columns) => write_number(sink, b"bad parameter: columns ", columns),
-    }
-}
+use written_lines::{write_number, write_param};
 
 // Refuses words that fit no command.
 fn refuse_words<K: Sink>(sink: &mut K) -> Status

@@ -16,7 +16,6 @@ ghost use Rattle.datamine_program.specs.Leaving.{ResumeLeaves};
 use crate::figures::tell_built;
 use crate::file_refusals::refuse_number;
 use crate::no_inverse::{refuse_relation, refuse_word};
-use crate::texts::other_text;
 use crate::writing::write_and_end;
 use odd_residues::ResidueRing;
 use outside_io::{Disk, Sink};
@@ -24,6 +23,7 @@ use page_codec::Params;
 use residues::Ring;
 use std::alloc::Global;
 use table_build::{ResumeFault, resume};
+use table_texts::other_text;
 use whole_runs::Status;
 
 // Tells that the header of a file has other parameters, these.

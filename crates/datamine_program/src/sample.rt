@@ -8,7 +8,6 @@ ghost use Rattle.datamine_program.specs.Inner.{counts_text, IsSampleText};
 
 use crate::no_inverse::refuse_table;
 use crate::ready::{Ready, make_ready};
-use crate::texts::push_count;
 use crate::writing::write_and_end;
 use line_loop::Replier;
 use line_samples::{Sampled, sample_replies};
@@ -18,6 +17,7 @@ use page_codec::Params;
 use residues::Ring;
 use std::alloc::{AllocError, Global};
 use table_replies::TableReplies;
+use table_texts::push_count;
 use whole_runs::Status;
 use word_letters::admissible_words;
 

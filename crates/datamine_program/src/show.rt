@@ -15,9 +15,7 @@ ghost use Rattle.whole_runs.specs.Works.Work.{Writes};
 ghost use Rattle.datamine_program.specs.Inner.{EndsFile, IsShowFault, ShowsAll};
 
 use crate::file_refusals::refuse_file;
-use crate::table::columns_of;
 use crate::table_file::{ShowFault, next_page, open_table};
-use crate::texts::{head_text, push_page};
 use crate::writing::write_and_end;
 use column_order::Columns;
 use outside_io::{Disk, Sink};
@@ -25,7 +23,8 @@ use page_codec::{Params, Walk};
 use page_file::PageFile;
 use residues::{Ring, WordMod};
 use std::alloc::Global;
-use table_build::relation_count;
+use table_columns::{columns_of, relation_count};
+use table_texts::{head_text, push_page};
 use whole_runs::Status;
 
 // Puts the lines of all sealed final rows at the end of the lines.

@@ -3,15 +3,14 @@ ghost use Rattle.std.specs.Prelude.{◌≡◌, length, IfOk, IfErr};
 ghost use Rattle.echelon.specs.Lists.{lead_at, row_at};
 ghost use Rattle.page_codec.specs.Bounds.{IsParams};
 ghost use Rattle.word_forms.specs.Forms.{AreForms};
-ghost use Rattle.file_model.specs.TableOf.{IsTableOf};
 ghost use Rattle.datamine_program.specs.Inner.{conversion_fault, relation_fault, IsTableMade, IsFaultOf};
 
-use column_order::{Columns, ColumnsFault, RankRule, rank};
 use echelon::ReducedRows;
 use lyndon_polys::{LyndonFault, LyndonTable};
 use page_codec::Params;
 use residues::Ring;
-use std::alloc::{AllocError, Global};
+use std::alloc::Global;
+use table_columns::columns_of;
 use table_rows::{RowsFault, reduced_rows};
 use word_forms::WordForms;
 use word_letters::Word;
@@ -52,21 +51,6 @@ fn relation_fault(fault: RowsFault) -> TableFault
     match fault {
         RowsFault::NoInverse { value, n } => TableFault::NoInverseRelation { value, n },
         RowsFault::Memory(_) => TableFault::Memory,
-    }
-}
-
-// The columns of the parameters, in their order.
-pub(crate) fn columns_of(alloc: Global, params: &Params) -> Result<Columns, AllocError>
-    requires { IsParams params.now }
-    ensures { IfOk result (IsTableOf params.now) }
-{
-    let preference = params.preference();
-    let ranked = preference;
-    let rule = RankRule::new(preference, move |word: Word| rank(&ranked, word));
-    match Columns::new(alloc, params.weight, params.depth, &rule) {
-        Ok(columns) => Ok(columns),
-        Err(ColumnsFault::TooManyColumns(_)) => unreachable!(),
-        Err(ColumnsFault::Memory(fault)) => Err(fault),
     }
 }
 

@@ -16,8 +16,8 @@ fn begins_with_plus(word: &[u8]) -> bool
     word.first() == Some(&b'+')
 }
 
-// The number that a word writes, where it is one or more digits and the value fits.
-fn number_word(word: &str) -> Option<u64>
+/// The number that a word writes, where it is one or more ASCII digits and the value fits 64 bits. It takes no memory.
+pub fn number_word(word: &str) -> Option<u64>
     ensures { result ≡ number_word word.now }
 {
     // What std reads as a number may have a plus before its digits.

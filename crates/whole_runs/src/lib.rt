@@ -12,6 +12,6 @@ mod requests;
 mod status;
 
 pub use command::{Command, WordsFault};
-pub use command_line::read_words;
+pub use command_line::{number_word, read_words};
 pub use laws::whole_run_laws;
 pub use status::Status;

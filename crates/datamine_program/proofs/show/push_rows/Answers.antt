@@ -8,8 +8,9 @@ use Rattle.page_file.specs.Notes.{count_of}
 use Rattle.table_model.specs.ListedSpan.{relation_count}
 use Rattle.file_model.specs.FinalRows.{finals_of_page}
 use Rattle.whole_runs.specs.FileTexts.{row_lines}
-use Rattle.datamine_program.specs.Inner.{IsPageFault, CanShow}
-use Rattle.datamine_program.proofs.ShownTexts.{can_show, columns_are}
+use Rattle.datamine_program.specs.Inner.{IsPageFault}
+use Rattle.table_texts.specs.Texts.{CanShow}
+use Rattle.table_texts.proofs.ShownTexts.{can_show, columns_are}
 use Rattle.datamine_program.proofs.ShownPages.{nothing_shown, not_gone_over, fits_place, stands_behind, more_shown, all_shown, few_pages, without_error}
 use Rattle.datamine_program.proofs.show.push_rows.Goals as goal
 

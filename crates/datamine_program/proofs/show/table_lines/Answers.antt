@@ -1,5 +1,5 @@
 use Rattle.std.proofs.Common.{string_bytes, ap, ◌∙◌}
-use Rattle.datamine_program.specs.Inner.{head_text}
+use Rattle.table_texts.specs.Texts.{head_text}
 use Rattle.datamine_program.proofs.ShownPages.{lines_shown}
 use Rattle.datamine_program.proofs.show.table_lines.Goals as goal
 

@@ -1,9 +1,0 @@
-use Rattle.std.proofs.Common.{string_bytes}
-use Rattle.datamine_program.proofs.CheckedTexts.{migrated_pieces}
-use Rattle.datamine_program.proofs.texts.migrated_text.Goals as goal
-
-pub returns : goal.returns
-returns c =
-    migrated_pieces c.args.params.now c.args.pages (string_bytes c.new-text.result) (string_bytes c.push_str.new.self) (string_bytes c.push_params.new.line)
-    (string_bytes c.push_count.new.line) (string_bytes c.push_str-2.new.self) c.new-text.ensures.bytes c.in_ok-push_str.ensures.bytes
-    c.in_ok-push_params.ensures c.in_ok-push_count.ensures c.in_ok-push_str-2.ensures.bytes
