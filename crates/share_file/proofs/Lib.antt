@@ -1,0 +1,5 @@
+pub mod HeadNumbers
+pub mod RowPages
+pub mod Walking
+pub mod Shares
+pub mod Putting
