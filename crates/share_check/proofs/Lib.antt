@@ -1,0 +1,12 @@
+mod ReadRows
+mod NumbersOfShare
+mod FirstPlaces
+mod ListedNames
+mod ReducedAt
+mod RowsLeft
+mod WhatIsTold
+mod SharePages
+mod ShareVerdicts
+mod ShareResults
+mod CheckedResults
+mod FaultsTold

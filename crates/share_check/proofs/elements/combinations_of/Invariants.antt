@@ -1,0 +1,7 @@
+use Rattle.std.proofs.Common.{take}
+use Rattle.share_check.specs.Inner.{AreRead, combinations_of}
+use Rattle.share_check.proofs.elements.combinations_of.Given as goal
+
+abbrev pub invariant-loop-entry : goal.invariant-loop-entry
+invariant-loop-entry g l =
+    AreRead g.R.Ring.zero (g.R.Ring.has l.ring) (g.R.Ring.value l.ring) (take l.entry-index (combinations_of l.entries)) l.combinations.items
