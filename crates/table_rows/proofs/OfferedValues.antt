@@ -156,10 +156,3 @@ module _ {E : Type 0} (m : ℕ) (value : E → ℕ) (columns : ColumnList) (tabl
           let leads = h.leads in
           leads.here ((in_span_iff m (length kept) (lead_at kept) (row_at value kept) (omega (arith, table.modulus)) forward p h.remainder h.is_remainder).0 lies
           h.column))
-
--- rows that were kept stay in the span where one more is taken in
-pub kept_within : {E : Type 0} (m : ℕ) (value : E → ℕ) (kept new : List (List (ℕ × E))) (p : ℕ → ℕ) → TakesIn m value kept p new
-    → SpanWithin m (length kept) (row_at value kept) (length new) (row_at value new)
-kept_within m value kept new p taken i l =
-    let other : i ≢ length kept = omega arith in
-    subst (InSpan m (length new) (row_at value new)) (rows_and-before m (length kept) (row_at value kept) p i other) (taken.0 i (omega arith))

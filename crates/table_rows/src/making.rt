@@ -8,12 +8,13 @@ ghost use Rattle.echelon.specs.States.{IsRowList};
 ghost use Rattle.table_model.specs.ListedSpan.{values_of, count_of};
 ghost use Rattle.table_model.specs.ReducedRows.{IsReducedRows, IsUnbroken, BreaksFirst};
 ghost use Rattle.word_forms.specs.Forms.{AreForms};
-ghost use Rattle.table_rows.specs.Inner.{HasTaken, AreCurrent, IsValue};
+ghost use Rattle.known_sums.specs.Known.{IsCurrent};
+ghost use Rattle.table_rows.specs.Inner.{HasTaken, IsValue};
 
 use crate::fault::RowsFault;
 use crate::offers::{Offers, forms_of_all, take_sum};
-use crate::table_forms::TableForms;
 use kept_products::{KeptProducts, value_kept};
+use known_sums::TableForms;
 use lyndon_polys::LyndonTable;
 use relation_list::{RelName, listing};
 use residues::Ring;
@@ -68,14 +69,14 @@ fn take_value<R: Ring>(
 ) -> Result<(), RowsFault>
     requires kept_ring { kept.old.ring ≡ table.now.ring }
     requires so_far { HasTaken (R.modulus table.now.ring) (R.has table.now.ring) (R.value table.now.ring) table.now n offers.old.echelon offers.old.known }
-    requires current { AreCurrent (R.modulus table.now.ring) (R.has table.now.ring) (R.value table.now.ring) table.now R.zero offers.old.echelon.rows
-        offers.old.known offers.old.is_stale }
+    requires current { IsCurrent (R.modulus table.now.ring) (R.has table.now.ring) (R.value table.now.ring) table.now R.zero offers.old.echelon.rows
+        offers.old.known }
     requires named { slice_get (listing_of table.now.columns.weight table.now.columns.depth) n ≡ Some name.now }
     ensures keeps_ring { kept.new.ring ≡ kept.old.ring }
     ensures ok { OnOk result (HasTaken (R.modulus table.now.ring) (R.has table.now.ring) (R.value table.now.ring) table.now (n + 1) offers.new.echelon
         offers.new.known) }
-    ensures current { OnOk result (AreCurrent (R.modulus table.now.ring) (R.has table.now.ring) (R.value table.now.ring) table.now R.zero offers.new.echelon.rows
-        offers.new.known offers.new.is_stale) }
+    ensures current { OnOk result (IsCurrent (R.modulus table.now.ring) (R.has table.now.ring) (R.value table.now.ring) table.now R.zero offers.new.echelon.rows
+        offers.new.known) }
     ensures no_inverse { (lead k : ℕ) → IsErrOf result (RowsFault.NoInverse lead k)
         → (k ≡ n) × BreaksFirst (R.modulus table.now.ring) table.now.columns (values_of (R.modulus table.now.ring) table.now.columns) n lead }
 {

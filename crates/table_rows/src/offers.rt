@@ -1,37 +1,31 @@
 //! Sums that are offered one after the other, but for those that are known to add nothing.
-ghost use Rattle.std.specs.Prelude.{◌≡◌, ℕ, ◌+◌, ◌<◌, ◌≤◌, IsTrue, IfOk, IfSome, OnOk, IsErrOf, [], None, false, length, All};
+ghost use Rattle.std.specs.Prelude.{◌≡◌, ℕ, ◌+◌, ◌<◌, ◌≤◌, IfOk, OnOk, IsErrOf, [], false, length, All};
 ghost use Rattle.std.specs.Map.{keys_of};
 ghost use Rattle.word_sums.specs.Terms.{coefficient_of, AllIn as AllTermsIn};
 ghost use Rattle.sparse_rows.specs.Entries.{AllIn, IsBelow};
 ghost use Rattle.lyndon_polys.specs.Tables.{entries_of};
 ghost use Rattle.linear_model.specs.Rows.{SpanWithin};
 ghost use Rattle.echelon.specs.Lists.{row_at};
-ghost use Rattle.echelon.specs.States.{Elimination};
 ghost use Rattle.table_model.specs.Conversion.{IsTableWord, IsCols};
 ghost use Rattle.table_model.specs.ListedSpan.{values_of};
 ghost use Rattle.table_model.specs.ReducedRows.{BreaksFirst};
-ghost use Rattle.table_rows.specs.Inner.{HasOffered, HasTaken, AreKnown, AreFresh, AreCurrent, IsValue};
+ghost use Rattle.known_sums.specs.Known.{IsNothing, IsCurrent, AreFresh};
+ghost use Rattle.table_rows.specs.Inner.{HasOffered, HasTaken, IsValue};
 
 use crate::fault::RowsFault;
-use crate::table_forms::{TableForms, forms_of_kept};
 use echelon::{OfferFault, RowEchelon, Traced};
+use known_sums::{KnownSums, TableForms};
 use lyndon_polys::{LyndonTable, OutFault};
 use residues::Ring;
 use sparse_rows::Row;
 use std::alloc::{AllocError, Global};
 use word_sums::WordSum;
 
-/// Forward rows of the sums that were taken in.
+/// Forward rows of the sums that were taken in, and what is known to add nothing to them.
 #[derive(Drop)]
 pub(crate) struct Offers<R: Ring> {
-    alloc: Global,
     pub(crate) echelon: RowEchelon<R>,
-    // By these forms most sums that add nothing are known without a row.
-    pub(crate) known: Option<TableForms<R>>,
-    // Whether a row was kept since they were made, so that they are by the rows of an earlier time.
-    pub(crate) is_stale: bool,
-    // The offers in turn that added nothing.
-    vain: u32,
+    pub(crate) known: KnownSums<R>,
 }
 
 impl<R: Ring> Offers<R> {
@@ -39,14 +33,11 @@ impl<R: Ring> Offers<R> {
     pub(crate) fn new(alloc: Global, ring: R, columns: u32) -> Offers<R>
         requires { columns ≤ 2048 }
         ensures echelon { result.echelon ≡ record { ring = ring; columns = columns; above = 0; numbers = []; rows = [] } }
-        ensures known { result.known ≡ None }
+        ensures known { IsNothing result.known }
     {
         Offers {
-            alloc,
             echelon: RowEchelon::new(alloc, ring, columns),
-            known: None,
-            is_stale: false,
-            vain: 0,
+            known: KnownSums::new(alloc),
         }
     }
 }
@@ -59,18 +50,18 @@ pub(crate) fn take_sum<R: Ring>(
     sum: &WordSum<R>,
 ) -> Result<(), RowsFault>
     requires so_far { HasTaken (R.modulus table.now.ring) (R.has table.now.ring) (R.value table.now.ring) table.now n offers.old.echelon offers.old.known }
-    requires current { AreCurrent (R.modulus table.now.ring) (R.has table.now.ring) (R.value table.now.ring) table.now R.zero offers.old.echelon.rows
-        offers.old.known offers.old.is_stale }
+    requires current { IsCurrent (R.modulus table.now.ring) (R.has table.now.ring) (R.value table.now.ring) table.now R.zero offers.old.echelon.rows
+        offers.old.known }
     requires value { IsValue (R.modulus table.now.ring) (R.has table.now.ring) (R.value table.now.ring) table.now.columns
         (values_of (R.modulus table.now.ring) table.now.columns n) sum.now }
     ensures ok { OnOk result (HasTaken (R.modulus table.now.ring) (R.has table.now.ring) (R.value table.now.ring) table.now (n + 1) offers.new.echelon
         offers.new.known) }
-    ensures current { OnOk result (AreCurrent (R.modulus table.now.ring) (R.has table.now.ring) (R.value table.now.ring) table.now R.zero offers.new.echelon.rows
-        offers.new.known offers.new.is_stale) }
+    ensures current { OnOk result (IsCurrent (R.modulus table.now.ring) (R.has table.now.ring) (R.value table.now.ring) table.now R.zero offers.new.echelon.rows
+        offers.new.known) }
     ensures no_inverse { (lead k : ℕ) → IsErrOf result (RowsFault.NoInverse lead k)
         → (k ≡ n) × BreaksFirst (R.modulus table.now.ring) table.now.columns (values_of (R.modulus table.now.ring) table.now.columns) n lead }
 {
-    match is_known(&offers.known, table, sum) {
+    match offers.known.passes(table, sum) {
         Ok(true) => return Ok(()),
         Ok(false) => {}
         Err(fault) => return Err(RowsFault::Memory(fault)),
@@ -79,31 +70,10 @@ pub(crate) fn take_sum<R: Ring>(
         Ok(is_new) => is_new,
         Err(fault) => return Err(fault),
     };
-    match renew(offers, table, is_new) {
+    match offers.known.note(table, &offers.echelon, is_new) {
         Ok(()) => Ok(()),
         Err(fault) => Err(RowsFault::Memory(fault)),
     }
-}
-
-/// Whether the forms of the words of a sum add up to nothing. No where there are no forms yet.
-fn is_known<R: Ring>(
-    known: &Option<TableForms<R>>,
-    table: &LyndonTable<R>,
-    sum: &WordSum<R>,
-) -> Result<bool, AllocError>
-    requires forms { IfSome known.now (λ k. (k.forms.ring ≡ table.now.ring) × (length k.forms.forms ≡ length table.now.columns.list)) }
-    requires in_ring { AllTermsIn (R.has table.now.ring) sum.now }
-    ensures known { IfOk result (λ is_known. IsTrue is_known → (n : ℕ) (e : Elimination R R.Elem)
-        → HasTaken (R.modulus table.now.ring) (R.has table.now.ring) (R.value table.now.ring) table.now n e known.now
-        → IsValue (R.modulus table.now.ring) (R.has table.now.ring) (R.value table.now.ring) table.now.columns
-        (values_of (R.modulus table.now.ring) table.now.columns n) sum.now
-        → HasTaken (R.modulus table.now.ring) (R.has table.now.ring) (R.value table.now.ring) table.now (n + 1) e known.now) }
-{
-    let Some(known) = known else {
-        return Ok(false);
-    };
-    let left = known.forms.row_of_sum(table.columns(), sum)?;
-    Ok(left.entries().is_empty())
 }
 
 /// Offers the row of the value of relation `n`, and answers whether it was new.
@@ -160,59 +130,18 @@ fn is_accepted<R: Ring>(traced: &Traced<R>) -> bool
     }
 }
 
-/// Makes the forms anew after many offers in turn that added nothing: by then the rows are mostly all that there will be.
-fn renew<R: Ring>(
-    offers: &mut Offers<R>,
-    table: &LyndonTable<R>,
-    is_new: bool,
-) -> Result<(), AllocError>
-    requires ring { offers.old.echelon.ring ≡ table.now.ring }
-    requires columns { offers.old.echelon.columns ≡ length table.now.columns.list }
-    requires current { is_new ≡ false → AreCurrent (R.modulus table.now.ring) (R.has table.now.ring) (R.value table.now.ring) table.now R.zero
-        offers.old.echelon.rows offers.old.known offers.old.is_stale }
-    ensures echelon { offers.new.echelon ≡ offers.old.echelon }
-    ensures known { OnOk result (AreKnown (R.modulus table.now.ring) (R.has table.now.ring) (R.value table.now.ring) table.now offers.old.echelon.rows
-        offers.old.known → AreKnown (R.modulus table.now.ring) (R.has table.now.ring) (R.value table.now.ring) table.now offers.new.echelon.rows offers.new.known) }
-    ensures current { OnOk result (AreCurrent (R.modulus table.now.ring) (R.has table.now.ring) (R.value table.now.ring) table.now R.zero offers.new.echelon.rows
-        offers.new.known offers.new.is_stale) }
-{
-    if is_new {
-        offers.vain = 0;
-        offers.is_stale = true;
-        return Ok(());
-    }
-    offers.vain = offers.vain.saturating_add(1);
-    if offers.vain < table.columns().len() / 8 {
-        return Ok(());
-    }
-    offers.vain = 0;
-    let known = forms_of_kept(offers.alloc, table, &offers.echelon)?;
-    offers.known = Some(known);
-    offers.is_stale = false;
-    Ok(())
-}
-
-/// The reduced list of all rows that were kept, and the forms by it. They are made already, where no row was kept since.
+/// The reduced list of all rows that were kept, and the forms by it.
 pub(crate) fn forms_of_all<R: Ring>(
     offers: Offers<R>,
     table: &LyndonTable<R>,
 ) -> Result<TableForms<R>, AllocError>
     requires ring { offers.echelon.ring ≡ table.now.ring }
     requires columns { offers.echelon.columns ≡ length table.now.columns.list }
-    requires current { AreCurrent (R.modulus table.now.ring) (R.has table.now.ring) (R.value table.now.ring) table.now R.zero offers.echelon.rows
-        offers.known offers.is_stale }
+    requires current { IsCurrent (R.modulus table.now.ring) (R.has table.now.ring) (R.value table.now.ring) table.now R.zero offers.echelon.rows
+        offers.known }
     ensures { IfOk result (λ made. AreFresh (R.modulus table.now.ring) (R.has table.now.ring) (R.value table.now.ring) table.now R.zero offers.echelon.rows
         made.rows made.forms) }
 {
-    let Offers {
-        alloc,
-        echelon,
-        known,
-        is_stale,
-        vain: _,
-    } = offers;
-    match known {
-        Some(known) if !is_stale => Ok(known),
-        _ => forms_of_kept(alloc, table, &echelon),
-    }
+    let Offers { echelon, known } = offers;
+    known.into_forms(table, &echelon)
 }

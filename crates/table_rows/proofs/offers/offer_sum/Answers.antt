@@ -5,7 +5,8 @@ use Rattle.table_model.specs.Conversion.{IsCols}
 use Rattle.table_model.specs.ListedSpan.{values_of}
 use Rattle.word_sums.specs.Terms.{coefficient_of}
 use Rattle.table_rows.proofs.NamedValues.{same_cols}
-use Rattle.table_rows.proofs.OfferedValues.{span_next, broken, unbroken_next, kept_within}
+use Rattle.known_sums.proofs.KnownLaws.{kept_within}
+use Rattle.table_rows.proofs.OfferedValues.{span_next, broken, unbroken_next}
 use Rattle.table_model.specs.ReducedRows.{IsBrokenAt}
 use Rattle.table_rows.proofs.Answering.{offered, same_fault, same_rows}
 use Rattle.table_rows.proofs.offers.offer_sum.Given as given
