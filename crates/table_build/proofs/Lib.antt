@@ -3,6 +3,7 @@ mod OfferedSums
 mod GrownLists
 mod Offerings
 mod OfferSteps
+mod KnownOffers
 mod OfferedBlocks
 mod BlockSteps
 mod Keepings

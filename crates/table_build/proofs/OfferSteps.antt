@@ -1,9 +1,12 @@
 -- What an offer answers, and what is known of the forward rows from then on.
 use Rattle.std.specs.Prelude.{◌≡◌, ◌≢◌, ℕ, suc, ◌*◌, ◌%◌, ◌<◌, Bool, true, Some, List, [], ◌∷◌, ◌++◌, length, get_or, slice_get}
 use Rattle.std.proofs.Common.{sym, ◌∙◌, ap, subst, arith, mod-eq_of_lt}
+use Rattle.zeta_model.specs.declared.Letter.{Letter}
 use Rattle.zeta_model.specs.Modular.{Same}
+use Rattle.zeta_model.specs.Sums.{Sum}
 use Rattle.column_order.specs.Columns.{ColumnList}
 use Rattle.sparse_rows.specs.Entries.{AllIn}
+use Rattle.word_sums.specs.Terms.{coefficient_of}
 use Rattle.echelon.specs.Lists.{entries_of, row_at, AreForward}
 use Rattle.echelon.specs.Offers.{HasNoInverse, TakesIn, used_at, InSpanOf}
 use Rattle.echelon.specs.States.{Elimination}
@@ -17,7 +20,7 @@ use Rattle.lyndon_polys.specs.Tables.{RingTable}
 use Rattle.table_model.specs.Conversion.{IsCols}
 use Rattle.table_model.specs.ListedSpan.{values_of, count_of}
 use Rattle.table_build.specs.Inner.{Course, CanOffer, HasOffered, IsMadeOf}
-use Rattle.table_build.proofs.NamedValues.{item_named, listed_value-named, count_is}
+use Rattle.table_build.proofs.NamedValues.{item_named, listed_value-named, count_is, same_cols}
 use Rattle.table_build.proofs.Offerings.{offered_none, offered_one, offered_made}
 
 module _ {R E : Type 0} (table : RingTable R) (names : List RelName) (kept : R) (e : Elimination R E) (n : ℕ) (can : CanOffer table names kept e n)
@@ -29,11 +32,19 @@ module _ {R E : Type 0} (table : RingTable R) (names : List RelName) (kept : R) 
   pub the_name : (name : RelName) → name ≡ get_or names n name → slice_get (listing_of table.columns.weight table.columns.depth) n ≡ Some name
   the_name name is = item_named names table.columns.weight table.columns.depth n name can.names_are within is
 
-  -- and the row of its value
-  pub the_row : (m : ℕ) (name : RelName) (p : ℕ → ℕ) → name ≡ get_or names n name → IsCols m table.columns (value_of m name) p
+  -- the coefficients of its value
+  pub the_value : (m : ℕ) (name : RelName) (s : Sum) → name ≡ get_or names n name → ((t : List Letter) → s t ≡ value_of m name t % m)
+      → (t : List Letter) → s t ≡ values_of m table.columns n t % m
+  the_value m name s is same =
+      subst (λ u. (t : List Letter) → s t ≡ u t % m)
+      (sym (listed_value-named m table.columns.weight table.columns.depth n name (the_name name is))) same
+
+  -- and its row
+  pub the_row : (m : ℕ) (value : E → ℕ) (name : RelName) (sum : List (List Letter × E)) (p : ℕ → ℕ) → name ≡ get_or names n name
+      → ((t : List Letter) → coefficient_of value sum t ≡ value_of m name t % m) → IsCols m table.columns (coefficient_of value sum) p
       → IsCols m table.columns (values_of m table.columns n) p
-  the_row m name p is row =
-      subst (λ s. IsCols m table.columns s p) (sym (listed_value-named m table.columns.weight table.columns.depth n name (the_name name is))) row
+  the_row m value name sum p is same row =
+      same_cols m table.columns (coefficient_of value sum) (values_of m table.columns n) p (the_value m name (coefficient_of value sum) is same) row
 
 no_unit : (m a x : ℕ) → 1 < m → a ≡ 0 → ¬ (Same m (a * x) 1)
 no_unit m a x big e h =

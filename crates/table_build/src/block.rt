@@ -5,12 +5,14 @@ ghost use Rattle.echelon.specs.Lists.{entries_of, row_at};
 ghost use Rattle.echelon.specs.Offers.{used_at};
 ghost use Rattle.echelon.specs.Traces.{IfZero, IfAccepted};
 ghost use Rattle.table_model.specs.ReducedRows.{BreaksFirst};
+ghost use Rattle.known_sums.specs.Known.{Knows};
 ghost use Rattle.table_build.specs.Faults.{HasCauseIn};
 ghost use Rattle.table_build.specs.Inner.{Course, CanOffer, HasOffered, AreRows, AreSums, AreFresh};
 
 use crate::fault::WorkFault;
 use crate::offering::Offering;
 use echelon::Traced;
+use known_sums::KnownSums;
 use residues::Ring;
 use sparse_rows::{Combination, Row};
 use std::alloc::{AllocError, Global};
@@ -100,13 +102,16 @@ impl<R: Ring> Block<R> {
 pub(crate) fn offer_block<R: Ring>(
     alloc: Global,
     offering: &mut Offering<R>,
+    known: &mut KnownSums<R>,
     first: u32,
     end: u32,
 ) -> Result<Block<R>, WorkFault>
     requires can { CanOffer offering.old.table offering.old.names.items offering.old.kept.ring offering.old.echelon first }
     requires order { first ≤ end }
     requires within { end ≤ length offering.old.names.items }
+    requires known { Knows (R.modulus offering.old.table.ring) (R.has offering.old.table.ring) (R.value offering.old.table.ring) offering.old.table offering.old.echelon.rows known.old }
     ensures can { OnOk result (CanOffer offering.new.table offering.new.names.items offering.new.kept.ring offering.new.echelon end) }
+    ensures known { OnOk result (Knows (R.modulus offering.old.table.ring) (R.has offering.old.table.ring) (R.value offering.old.table.ring) offering.old.table offering.new.echelon.rows known.new) }
     ensures table { (offering.new.table ≡ offering.old.table) × (offering.new.names.items ≡ offering.old.names.items) }
     ensures numbers { IfOk result (λ block. offering.new.echelon.numbers ≡ offering.old.echelon.numbers ++ block.kept.numbers.items) }
     ensures rows { IfOk result (λ block. offering.new.echelon.rows ≡ offering.old.echelon.rows ++ block.kept.rows.items) }
@@ -124,7 +129,7 @@ pub(crate) fn offer_block<R: Ring>(
 {
     let mut block = Block::none(alloc);
     for n in first..end {
-        let traced = match offering.offer(n) {
+        let traced = match offering.offer(known, n) {
             Ok(traced) => traced,
             Err(fault) => return Err(fault),
         };

@@ -5,6 +5,7 @@ ghost use Rattle.page_codec.specs.Places.{block_count};
 ghost use Rattle.page_file.specs.Notes.{Suits};
 ghost use Rattle.table_model.specs.ListedSpan.{count_of};
 ghost use Rattle.table_model.specs.ReducedRows.{BreaksFirst};
+ghost use Rattle.known_sums.specs.Known.{Knows};
 ghost use Rattle.table_build.specs.Faults.{HasCauseIn};
 ghost use Rattle.table_build.specs.Inner.{Course, CanOffer, AreRows, IsAt, IsEnd, IsReadyAt, Holds, Keeps};
 
@@ -13,6 +14,7 @@ use crate::fault::WorkFault;
 use crate::finals::seal_finals;
 use crate::offering::Offering;
 use crate::sealing::seal_block;
+use known_sums::KnownSums;
 use outside_io::Disk;
 use page_file::PageFile;
 use residues::Ring;
@@ -22,6 +24,7 @@ use std::alloc::Global;
 fn work_on_block<D: Disk, R: Ring>(
     alloc: Global,
     offering: &mut Offering<R>,
+    known: &mut KnownSums<R>,
     sealed: &mut KeptRows<R>,
     file: &mut PageFile,
     disk: &mut D,
@@ -30,12 +33,14 @@ fn work_on_block<D: Disk, R: Ring>(
     requires can { CanOffer offering.old.table offering.old.names.items offering.old.kept.ring offering.old.echelon (64 * number) }
     requires some { 64 * number < length offering.old.names.items }
     requires few { length offering.old.names.items ≤ 1179648 }
+    requires known { Knows (R.modulus offering.old.table.ring) (R.has offering.old.table.ring) (R.value offering.old.table.ring) offering.old.table offering.old.echelon.rows known.old }
     requires numbers { sealed.old.numbers.items ≡ offering.old.echelon.numbers }
     requires same_rows { sealed.old.rows.items ≡ offering.old.echelon.rows }
     requires rows { AreRows (R.has offering.old.table.ring) (64 * number) sealed.old.numbers.items sealed.old.rows.items }
     requires ready { IsReadyAt (1 + number) file.old }
     requires suits { IfSome (D.trace disk.old) (λ t. Suits file.old t.now.contents) }
     ensures can { OnOk result (CanOffer offering.new.table offering.new.names.items offering.new.kept.ring offering.new.echelon (64 * (1 + number))) }
+    ensures known { OnOk result (Knows (R.modulus offering.old.table.ring) (R.has offering.old.table.ring) (R.value offering.old.table.ring) offering.old.table offering.new.echelon.rows known.new) }
     ensures table { offering.new.table ≡ offering.old.table }
     ensures names { offering.new.names.items ≡ offering.old.names.items }
     ensures numbers { OnOk result (sealed.new.numbers.items ≡ offering.new.echelon.numbers) }
@@ -60,7 +65,7 @@ fn work_on_block<D: Disk, R: Ring>(
 {
     let first = 64 * number;
     let end = (offering.names.len() as u32).min(first + 64);
-    let block = match offer_block(alloc, offering, first, end) {
+    let block = match offer_block(alloc, offering, known, first, end) {
         Ok(block) => block,
         Err(fault) => return Err(fault),
     };
@@ -79,6 +84,7 @@ fn work_on_block<D: Disk, R: Ring>(
 fn work_on_blocks<D: Disk, R: Ring>(
     alloc: Global,
     offering: &mut Offering<R>,
+    known: &mut KnownSums<R>,
     sealed: &mut KeptRows<R>,
     file: &mut PageFile,
     disk: &mut D,
@@ -89,12 +95,14 @@ fn work_on_blocks<D: Disk, R: Ring>(
     requires few { length offering.old.names.items ≤ 1179648 }
     requires all { blocks ≡ block_count (length offering.old.names.items) }
     requires order { first ≤ blocks }
+    requires known { Knows (R.modulus offering.old.table.ring) (R.has offering.old.table.ring) (R.value offering.old.table.ring) offering.old.table offering.old.echelon.rows known.old }
     requires numbers { sealed.old.numbers.items ≡ offering.old.echelon.numbers }
     requires same_rows { sealed.old.rows.items ≡ offering.old.echelon.rows }
     requires rows { AreRows (R.has offering.old.table.ring) (64 * first) sealed.old.numbers.items sealed.old.rows.items }
     requires ready { IsReadyAt (1 + first) file.old }
     requires suits { IfSome (D.trace disk.old) (λ t. Suits file.old t.now.contents) }
     ensures can { OnOk result (CanOffer offering.new.table offering.new.names.items offering.new.kept.ring offering.new.echelon (64 * blocks)) }
+    ensures known { OnOk result (Knows (R.modulus offering.old.table.ring) (R.has offering.old.table.ring) (R.value offering.old.table.ring) offering.old.table offering.new.echelon.rows known.new) }
     ensures table { offering.new.table ≡ offering.old.table }
     ensures numbers { OnOk result (sealed.new.numbers.items ≡ offering.new.echelon.numbers) }
     ensures same_rows { OnOk result (sealed.new.rows.items ≡ offering.new.echelon.rows) }
@@ -118,7 +126,7 @@ fn work_on_blocks<D: Disk, R: Ring>(
     ensures faults { D.faults disk.old ≤ D.faults disk.new }
 {
     for number in first..blocks {
-        if let Err(fault) = work_on_block(alloc, offering, sealed, file, disk, number) {
+        if let Err(fault) = work_on_block(alloc, offering, known, sealed, file, disk, number) {
             return Err(fault);
         }
     }
@@ -161,7 +169,18 @@ pub(crate) fn work<D: Disk, R: Ring>(
 {
     let relations = offering.names.len() as u32;
     let blocks = (relations + 63) / 64;
-    if let Err(fault) = work_on_blocks(alloc, offering, &mut sealed, file, disk, first, blocks) {
+    // Nothing is known of rows that were put back, until offers add nothing to them.
+    let mut known = KnownSums::new(alloc);
+    if let Err(fault) = work_on_blocks(
+        alloc,
+        offering,
+        &mut known,
+        &mut sealed,
+        file,
+        disk,
+        first,
+        blocks,
+    ) {
         return Err(fault);
     }
     let finals = match offering.echelon.finish() {

@@ -22,9 +22,10 @@ use residues::Ring;
 use sparse_rows::Combination;
 use std::alloc::{AllocError, Global};
 
-// The accumulators of a group: each of its rows has one for each number. At 16 bytes each they take 64 MiB at most. A walk decodes all
-// sealed forward pages, which is most of the time of a build, so the fewer groups the better.
-const ACCUMULATORS: usize = 4194304;
+// The accumulators of a group: each of its rows has one for each number. At 16 bytes each they take 27 MiB at most, and the combinations that
+// come of them about as much. A walk decodes all sealed forward pages, so that fewer groups take less time, and more of them less memory:
+// the table of weight 12 and depth 11 is one group.
+const ACCUMULATORS: usize = 1769472;
 
 // The combinations of the final rows on the pages of the places from `first` to below `end`.
 #[derive(Drop)]

@@ -5,6 +5,7 @@ use Rattle.echelon.specs.Offers.{used_at}
 use Rattle.echelon.specs.Traces.{IfAccepted}
 use Rattle.lyndon_polys.specs.Tables.{RingTable}
 use Rattle.table_model.specs.ReducedRows.{BreaksFirst}
+use Rattle.known_sums.specs.Known.{Knows}
 use Rattle.table_build.specs.Faults.{HasCauseIn}
 use Rattle.table_build.specs.Inner.{Course, CanOffer, HasOffered, IsMadeOf, HasBlock}
 use Rattle.table_build.proofs.BlockSteps.{empty_block, block_step}
@@ -19,6 +20,7 @@ loop-n-init g c =
     let none = c.none-block.ensures in
     record {
       can = c.requires.can;
+      known = c.requires.known;
       table = refl;
       names = refl;
       block = empty_block (g.R.Ring.modulus t.ring) (g.R.Ring.has t.ring) (g.R.Ring.value t.ring) t.columns c.args.first c.args.first old.numbers old.rows
@@ -41,6 +43,8 @@ loop-n-preserved g c =
     let step : suc n ≡ n + 1 = omega arith in
     record {
       can = subst (λ k. CanOffer now.table now.names.items now.kept.ring now.echelon k) step told.can;
+      known = subst (λ (x : RingTable g.row.R.Denot). Knows (g.R.Ring.modulus x.ring) (g.R.Ring.has x.ring) (g.R.Ring.value x.ring) x now.echelon.rows
+          c.offer.new.known) same told.known;
       table = told.table.0 ∙ same;
       names = told.table.1 ∙ kept.names;
       block = subst (λ k. HasBlock (g.R.Ring.modulus t.ring) (g.R.Ring.has t.ring) (g.R.Ring.value t.ring) t.columns c.args.first k old.numbers old.rows

@@ -4,6 +4,7 @@ use Rattle.outside_io.specs.Causes.{Rose}
 use Rattle.lyndon_polys.specs.Tables.{RingTable}
 use Rattle.table_model.specs.ListedSpan.{count_of}
 use Rattle.table_model.specs.ReducedRows.{BreaksFirst}
+use Rattle.known_sums.specs.Known.{Knows}
 use Rattle.table_build.specs.Faults.{HasCauseIn}
 use Rattle.table_build.specs.Inner.{CanOffer, AreRows, IsAt, IsReadyAt, Holds, Keeps}
 use Rattle.table_build.proofs.BuildEndings.{rose_since}
@@ -16,6 +17,7 @@ loop-number-init g c =
     let trace = g.D.Disk.trace c.args.disk.now in
     record {
       can = c.requires.can;
+      known = c.requires.known;
       table = refl;
       names = refl;
       numbers = c.requires.numbers;
@@ -46,6 +48,8 @@ loop-number-preserved g c =
     let step : 1 + number ≡ number + 1 = omega arith in
     record {
       can = subst (λ k. CanOffer o.table o.names.items o.kept.ring o.echelon (64 * k)) step told.can;
+      known = subst (λ (x : RingTable g.row.R.Denot). Knows (g.R.Ring.modulus x.ring) (g.R.Ring.has x.ring) (g.R.Ring.value x.ring) x o.echelon.rows
+          c.work_on_block.new.known) same told.known;
       table = told.table ∙ same;
       names = told.names ∙ kept.names;
       numbers = told.numbers;

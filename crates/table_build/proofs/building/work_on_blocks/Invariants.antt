@@ -1,12 +1,15 @@
 use Rattle.std.proofs.Common.{◌≡◌, ◌+◌, ◌*◌, ◌≤◌}
 use Rattle.std.specs.Prelude.{IfSome, None}
 use Rattle.page_file.specs.Notes.{Suits}
+use Rattle.known_sums.specs.Known.{Knows}
 use Rattle.table_build.specs.Inner.{Course, CanOffer, AreRows, IsAt, IsReadyAt, Keeps}
 use Rattle.table_build.proofs.building.work_on_blocks.Given as goal
 
 abbrev pub invariant-loop-number : goal.invariant-loop-number
 invariant-loop-number g l = record {
   can : CanOffer l.offering.table l.offering.names.items l.offering.kept.ring l.offering.echelon (64 * l.number);
+  known : Knows (g.R.Ring.modulus l.fn.offering.table.ring) (g.R.Ring.has l.fn.offering.table.ring) (g.R.Ring.value l.fn.offering.table.ring)
+      l.fn.offering.table l.offering.echelon.rows l.known;
   table : l.offering.table ≡ l.fn.offering.table;
   names : l.offering.names.items ≡ l.fn.offering.names.items;
   numbers : l.sealed.numbers.items ≡ l.offering.echelon.numbers;
