@@ -1,0 +1,9 @@
+pub mod CountedShares
+pub mod RowPlaces
+pub mod EntryBounds
+pub mod TurnRows
+pub mod ExpandedTurns
+pub mod OfferedRows
+pub mod TurnCounts
+pub mod MergedShares
+pub mod Exclusions

@@ -1,0 +1,3 @@
+pub mod Turns
+pub mod Results
+pub mod Inner
