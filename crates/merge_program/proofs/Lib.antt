@@ -1,0 +1,2 @@
+pub mod OneShare
+pub mod Endings

@@ -1,0 +1,4 @@
+pub mod MergeWords
+pub mod Statuses
+pub mod ShareRuns
+pub mod Inner
