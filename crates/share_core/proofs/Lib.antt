@@ -1,0 +1,9 @@
+pub mod ListFacts
+pub mod KeptLists
+pub mod ShareFits
+pub mod RefusedShares
+pub mod FinishedMerges
+pub mod IndexCounts
+pub mod CountedRuns
+pub mod GrantedRuns
+pub mod SoundShares
