@@ -1,0 +1,13 @@
+pub mod PlainTurns
+pub mod OneVerdict
+pub mod OneTaking
+pub mod OneRows
+pub mod OneRun
+pub mod OneMerge
+pub mod LinePieces
+pub mod MergedLines
+pub mod ReadFiles
+pub mod ManyDisks
+pub mod Deliveries
+pub mod Finishing
+pub mod RunEndings

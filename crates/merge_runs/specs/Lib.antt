@@ -1,0 +1,10 @@
+pub mod Disks
+pub mod Files
+pub mod MergeWords
+pub mod Lines
+pub mod Plain
+pub mod Taking
+pub mod Runs
+pub mod Outcomes
+pub mod Deliveries
+pub mod Inner
