@@ -1,12 +1,13 @@
 #!/usr/bin/env python3
 """Runs every command that the documents show with its output, and compares.
 
-    tests/documents.py PATH_TO_MZV
+    tests/documents.py PATH_TO_MZV [PATH_TO_MZV_MERGE]
 
-In README.md and docs/ a line `$ mzv ..`, or one of a pipe with `mzv` in it, in a block of code is typed in a folder that has what
-stands at the top of the repository, and what follows it, up to the next such line or the end of the block, is what it prints. A line
-`..` stands for any lines. Each page has a folder of its own, where the files that its commands make stay up to its end. Each file of
-examples/ that ends with .sh has its output beside it. The last line is 'N passed, M failed'.
+In README.md and docs/ a line `$ mzv ..`, or one of a pipe or a loop with `mzv` or `mzv_merge` in it, in a block of code is typed in a folder
+that has what stands at the top of the repository, and what follows it, up to the next such line or the end of the block, is what it prints.
+A line `..` stands for any lines. Lines with a program that is not given are left out. Each page has a folder of its own, where the files
+that its commands make stay up to its end. Each file of examples/ that ends with .sh has its output beside it. The last line is 'N passed, M
+failed'.
 """
 import os
 import re
@@ -27,13 +28,13 @@ def documents():
 
 
 def shown(path):
-    """The commands with `mzv` that a page shows, each with the lines that it prints."""
+    """The commands with `mzv` or `mzv_merge` that a page shows, each with the lines that it prints."""
     with open(path, encoding="utf-8") as page:
         blocks = re.findall(r"^```[^\n]*\n(.*?)^```", page.read(), re.M | re.S)
     for block in blocks:
         for part in re.split(r"^\$ ", block, flags=re.M)[1:]:
             command, *lines = part.splitlines()
-            if re.search(r"(^|[|;('] *)mzv\b", command):
+            if re.search(r"(^|[|;('] *|\bdo )mzv(_merge)?\b", command):
                 yield command, lines
 
 
@@ -63,14 +64,16 @@ def folder_of(page, work):
 
 
 def main():
-    mzv = os.path.abspath(sys.argv[1])
+    given = dict(zip(("mzv", "mzv_merge"), map(os.path.abspath, sys.argv[1:])))
     commands = [(os.path.relpath(path, ROOT), *found) for path in documents() for found in shown(path)]
     commands += [("examples", *found) for found in scripts()]
+    commands = [found for found in commands if "mzv_merge" in given or "mzv_merge" not in found[1]]
     failed = 0
     with tempfile.TemporaryDirectory() as work:
         programs = os.path.join(work, "bin")
         os.mkdir(programs)
-        os.symlink(mzv, os.path.join(programs, "mzv"))
+        for name, path in given.items():
+            os.symlink(path, os.path.join(programs, name))
         environment = dict(os.environ, PATH=programs + os.pathsep + os.environ["PATH"], TMPDIR=work)
         for page, command, lines in commands:
             words, folder = ["bash", "-c", command], folder_of(page, work)

@@ -1,7 +1,7 @@
 #!/usr/bin/env python3
-"""Runs `mzv` with each of its allocations failing in turn, and looks at what it says.
+"""Runs `mzv` and `mzv_merge` with each of their allocations failing in turn, and looks at what they say.
 
-    tests/failing_allocations.py PATH_TO_MZV
+    tests/failing_allocations.py PATH_TO_MZV [PATH_TO_MZV_MERGE]
 
 With ample memory a command gives its whole output. With one allocation that fails it has to end with status 1 and a first
 part of that output, or, where the allocation does not matter, with the whole output and its status; words that fit no
@@ -19,6 +19,7 @@ sys.path.insert(0, HERE)
 from oracle.builds import built_pages  # noqa: E402
 from oracle.files import contents_of, file_of, sealed_pages  # noqa: E402
 from oracle.migrations import old_file_of  # noqa: E402
+from oracle.shares import share_bytes, share_pages  # noqa: E402
 
 # The files that are there: a table of 4 pages, its first 3 pages, the table with a bad page, with another combination beside its last row,
 # and without its last row; and one whose words do not convert.
@@ -81,13 +82,45 @@ CASES = [
     (["dual", "x"], LINES),
     ([], LINES),
 ]
+# The shares of a table; a part of one, one with the number of another, and one without its rows; and shares whose rows together are broken.
+SHARES = {"share%d" % i: share_bytes(i, 2, share_pages((4, 3, 101, "lex", ()), i, 2)) for i in range(2)}
+SHARES["part"] = SHARES["share1"][:-1]
+SHARES["turned"] = share_bytes(1, 2, share_pages((4, 3, 101, "lex", ()), 0, 2))
+SHARES["empty"] = share_bytes(0, 2, share_pages((4, 3, 101, "lex", ()), 0, 2)[:1] + [("Done", 0)])
+SHARES.update(("broken%d" % i, share_bytes(i, 3, share_pages((4, 3, 15, "lex", ()), i, 3))) for i in range(3))
+MERGE_CASES = [
+    "merge 4 3 101 lex 2 share1 share0",
+    "merge 4 3 101 lex 2 share0 share1 share0",
+    "merge 4 3 101 lex 2 share1",
+    "merge 4 3 101 lex 2 share0 part",
+    "merge 4 3 101 lex 2 share0 turned",
+    "merge 4 3 101 lex 2 empty share1",
+    "merge 4 3 101 lex 3 share0",
+    "merge 4 3 101 lex 1 absent",
+    "merge 4 3 101 lex 1 .",
+    "merge 4 3 15 lex 3 broken0 broken1 broken2",
+    "merge 4 3 100 lex 1 share0",
+    "merge 4 3 101 lex 0 share0",
+    "merge 4 3 101 lex 2",
+    "share 3 2 5 lex 1 2",
+    "share 3 2 5 lex 2 3",
+    "share 6 5 2305843009213693951 odd 1 2",
+    "share 5 4 9223372036854775807 lex 0 256",
+    "share 4 3 100 lex 0 1",
+    "share 4 3 15 lex 0 1",
+    "share 3 2 5 lex 0 257",
+    "share 3 2 5 lex 2 2",
+    "share 4 4 5 lex 0 1",
+    "share 3 2 5 lex 2",
+    "",
+]
 
 
-def run(mzv, words, given, library, at, count_file):
+def run(program, words, given, library, at, count_file):
     """The status, what is written, the pages of a file that is built, and how many allocations there were."""
     environment = dict(os.environ, LD_PRELOAD=library, FAIL_AT=str(at), FAIL_COUNT=count_file)
     folder = os.path.dirname(count_file)
-    done = subprocess.run([mzv] + words, input=given, capture_output=True, env=environment, timeout=60, cwd=folder)
+    done = subprocess.run([program] + words, input=given, capture_output=True, env=environment, timeout=60, cwd=folder)
     with open(count_file) as told:
         count = int(told.read())
     built = os.path.join(folder, "built")
@@ -97,30 +130,36 @@ def run(mzv, words, given, library, at, count_file):
     return done.returncode, done.stdout, done.stderr, pages, count
 
 
+def cases():
+    """The programs with their words and their input."""
+    mzv, *merge = map(os.path.abspath, sys.argv[1:])
+    return [(mzv, words, given) for words, given in CASES] + [(program, line.split(), b"") for program in merge for line in MERGE_CASES]
+
+
 def main():
-    mzv = os.path.abspath(sys.argv[1])
     passed = failed = 0
     with tempfile.TemporaryDirectory() as work:
         library = os.path.join(work, "failing.so")
         subprocess.run(["cc", "-O1", "-shared", "-fPIC", "-o", library, os.path.join(HERE, "failing_allocations.c")], check=True)
         count_file = os.path.join(work, "count")
-        for name, contents in FILES.items():
+        for name, contents in {**FILES, **SHARES}.items():
             with open(os.path.join(work, name), "wb") as file:
                 file.write(contents)
-        for words, given in CASES:
-            status, output, error, pages, count = run(mzv, words, given, library, 0, count_file)
+        for program, words, given in cases():
+            status, output, error, pages, count = run(program, words, given, library, 0, count_file)
             assert error == b"", error
             seen = set()
             for at in range(1, count + 1):
-                now, told, error, built, _ = run(mzv, words, given, library, at, count_file)
+                now, told, error, built, _ = run(program, words, given, library, at, count_file)
                 seen.add(now)
                 whole = now == status and told == output and built == pages
                 if error == b"" and (whole or (now == 1 and output.startswith(told) and pages[:len(built)] == built)):
                     passed += 1
                 else:
                     failed += 1
-                    print("words %s, allocation %d: status %d, %d bytes" % (words, at, now, len(told)))
-            print("words %s: status %d, %d allocations, statuses with one failing: %s" % (words, status, count, sorted(seen)))
+                    print("%s %s, allocation %d: status %d, %d bytes" % (os.path.basename(program), words, at, now, len(told)))
+            print("%s %s: status %d, %d allocations, statuses with one failing: %s" % (
+                os.path.basename(program), words, status, count, sorted(seen)))
     print("%d passed, %d failed" % (passed, failed))
     sys.exit(failed > 0)
 
